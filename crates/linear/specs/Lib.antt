@@ -1,0 +1,4 @@
+pub mod Terms
+pub mod Slacks
+pub mod Linears
+pub mod Lowests

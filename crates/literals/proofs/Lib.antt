@@ -1,0 +1,4 @@
+pub mod Known
+pub mod Standing
+pub mod Freedom
+pub mod Refused

@@ -1,0 +1,3 @@
+pub mod Literals
+pub mod Refusals
+pub mod Settings
