@@ -8,8 +8,9 @@ use native.Mathlib.Numerals.{one-add}
 use lib.Arith.{digits-mod}
 use lib.Bits.{bitAnd, bitOr, and-step, or-step, and-shr, or-shr, or-lt}
 use lib.Dec.{eqb, eqb·suc-zero, eqb·zero-suc, eqb·suc-suc}
-use lib.Pow.{shr-shr}
-use Rattle.std.proofs.shelf.Tests.{or-left, or-right}
+use lib.Pow.{pow-lt, shr-shr}
+use Rattle.std.proofs.shelf.Bits.{and-le-l}
+use Rattle.std.proofs.shelf.Tests.{eqb-true, or-right}
 use Rattle.std.proofs.shelf.Ways.{tells}
 use Rattle.bits.specs.Words.{bit}
 
@@ -78,6 +79,14 @@ bit-with w i j = bit-or w (2 ^ i) j ∙ ap (λ (t : Bool). bit w j || t) (bit-po
     swap : (p q : Bool) → (p || q) ≡ (q || p)
     swap p q = grind arith
 
+-- a word of k bits with the bit i taken out
+pub bit-without : (k w i j : ℕ) → i < k → j < k → bit (bitAnd w ((2 ^ k - 1) - 2 ^ i)) j ≡ (not (eqb j i) && bit w j)
+bit-without k w i j p q =
+    bit-and w ((2 ^ k - 1) - 2 ^ i) j ∙ ap (λ (t : Bool). bit w j && t) (bit-not k (2 ^ i) j (pow-lt p) q ∙ ap not (bit-pow i j)) ∙ swap (bit w j) (not (eqb j i))
+  where
+    swap : (a b : Bool) → (a && b) ≡ (b && a)
+    swap a b = grind arith
+
 -- ---- a word is known by its bits
 
 low-same : (a b : ℕ) → bit a 0 ≡ bit b 0 → a % 2 ≡ b % 2
@@ -108,3 +117,19 @@ or-same k a b p q h = word-same k (bitOr a b) a (or-lt k a b p q) p (λ j l. bit
     absorbs true y h = refl
     absorbs false true h = sym (h refl)
     absorbs false false h = refl
+
+-- a bit set and taken out again
+pub with-without : (k a i : ℕ) → a < 2 ^ k → i < k → bit a i ≡ false → bitAnd (bitOr a (2 ^ i)) ((2 ^ k - 1) - 2 ^ i) ≡ a
+with-without k a i h p off =
+    word-same k _ a (and-below (bitOr a (2 ^ i)) ((2 ^ k - 1) - 2 ^ i) (or-lt k a (2 ^ i) h (pow-lt p))) h
+    (λ j q. bit-without k (bitOr a (2 ^ i)) i j p q ∙ ap (λ (b : Bool). not (eqb j i) && b) (bit-with a i j) ∙ at j)
+  where
+    and-below : (x y : ℕ) → x < 2 ^ k → bitAnd x y < 2 ^ k
+    and-below x y q = let le = and-le-l x y in omega arith
+
+    cases : (b c : Bool) → (b ≡ true → c ≡ false) → (not b && (b || c)) ≡ c
+    cases true c f = sym (f refl)
+    cases false c f = refl
+
+    at : (j : ℕ) → (not (eqb j i) && (eqb j i || bit a j)) ≡ bit a j
+    at j = cases (eqb j i) (bit a j) (λ e. ap (bit a) (eqb-true j i e) ∙ off)

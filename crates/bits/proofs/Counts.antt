@@ -25,6 +25,30 @@ kept-same p q b (suc k) h =
     kept-cons (p b) b _ ∙ ap₂ (λ (c : Bool) (n : ℕ). cond c 1 0 + n) (h b (omega arith) (omega arith)) (kept-same p q (suc b) k (λ n u v. h n (omega arith) (omega arith)))
     ∙ sym (kept-cons (q b) b _)
 
+-- a test that fails at one place more keeps one less
+pub kept-less : (p q : ℕ → Bool) (b k n : ℕ) → b ≤ n → n < b + k → p n ≡ true → q n ≡ false → ((m : ℕ) → b ≤ m → m ≢ n → p m ≡ q m)
+    → length (kept q b k) + 1 ≡ length (kept p b k)
+kept-less p q b zero n u v e f h = absurd (omega arith)
+kept-less p q b (suc k) n u v e f h = ⊎-elim here (there (λ lo. kept-less p q (suc b) k n lo (omega arith) e f (λ m u. h m (omega arith)))) (cases-eq b n)
+  where
+    here : b ≡ n → length (kept q b (suc k)) + 1 ≡ length (kept p b (suc k))
+    here d =
+        let one : _≡_ {A = ℕ} (cond (p b) 1 0) 1 = ap (λ (c : Bool). cond c 1 0) (ap p d ∙ e) in
+        let none : _≡_ {A = ℕ} (cond (q b) 1 0) 0 = ap (λ (c : Bool). cond c 1 0) (ap q d ∙ f) in
+        let rest : length (kept p (suc b) k) ≡ length (kept q (suc b) k) = kept-same p q (suc b) k (λ m x y. h m (omega arith) (λ w. absurd (omega arith))) in
+        let a = kept-cons (p b) b (kept p (suc b) k) in
+        let c = kept-cons (q b) b (kept q (suc b) k) in
+        omega arith
+
+    there : (suc b ≤ n → length (kept q (suc b) k) + 1 ≡ length (kept p (suc b) k)) → (b ≡ n → ⊥) → length (kept q b (suc k)) + 1 ≡ length (kept p b (suc k))
+    there step d =
+        let same-here : _≡_ {A = ℕ} (cond (p b) 1 0) (cond (q b) 1 0) = ap (λ (c : Bool). cond c 1 0) (h b (omega arith) d) in
+        let lo : suc b ≤ n = omega arith in
+        let ih = step lo in
+        let a = kept-cons (p b) b (kept p (suc b) k) in
+        let c = kept-cons (q b) b (kept q (suc b) k) in
+        omega arith
+
 -- the same test, one number later
 pub kept-later : (p : ℕ → Bool) (b k : ℕ) → length (kept p b k) ≡ length (kept (λ n. p (n - 1)) (suc b) k)
 kept-later p b zero = refl

@@ -1,3 +1,4 @@
 pub mod Distinct
 pub mod Reading
 pub mod Mapping
+pub mod Sets

@@ -1,19 +1,22 @@
 -- Free switches, one by one and counted.
-use mathlib.Core.Path.{_≡_, refl, sym, ap, _∙_}
+use mathlib.Core.Path.{_≡_, refl, sym, ap, ap₂, _∙_}
+use mathlib.Core.Logic.{_≢_}
 use mathlib.Core.Bool.{Bool, true, false, cond, not, _&&_, _||_}
-use Prim.Native.Nat.{ℕ, _-_, _/_, _%_, _^_, _<_}
+use Prim.Native.Nat.{ℕ, _+_, _-_, _/_, _%_, _^_, _<_}
 use native.Mathlib.Omega.{arith}
 use lib.Bits.{bitOr, or-lt}
 use lib.Count.{ones}
 use lib.Dec.{eqb}
+use Rattle.std.proofs.shelf.Tests.{and-from, and-left, ne-eqb}
 use Rattle.std.proofs.shelf.Ways.{tells}
 use Rattle.bits.specs.Words.{bit}
-use Rattle.bits.proofs.Bits.{bit-or, bit-not}
-use Rattle.bits.proofs.Counts.{kept-same, kept-later, ones-kept}
+use Rattle.bits.proofs.Bits.{bit-or, bit-not, bit-with}
+use Rattle.bits.proofs.Counts.{kept-same, kept-less, kept-later, ones-kept}
 use Rattle.literals.specs.declared.literal.Literal.{Literal}
 use Rattle.literals.specs.declared.setting.Setting.{Setting}
-use Rattle.literals.specs.Literals.{opposite}
-use Rattle.literals.specs.Settings.{stands, free, free-switch, free-count}
+use Rattle.literals.specs.Literals.{opposite, same}
+use Rattle.literals.specs.Settings.{stands, free, plus, nothing, free-switch, free-count}
+use Rattle.literals.proofs.Standing.{stands-plus, plus-has, nothing-stands}
 
 -- a switch is free where either of its literals is
 pub free-is : (s : Setting) (l : Literal) → free s l ≡ free-switch s (l .switch)
@@ -40,3 +43,49 @@ ones-free s p q =
     ones-kept 64 ((2 ^ 64 - 1) - bitOr (s .on) (s .off)) small
     ∙ kept-later (bit ((2 ^ 64 - 1) - bitOr (s .on) (s .off))) 0 64
     ∙ kept-same _ (free-switch s) 1 64 (λ n u v. bit-not 64 (bitOr (s .on) (s .off)) (n - 1) fits (omega arith) ∙ ap not (bit-or (s .on) (s .off) (n - 1)))
+
+-- ---- a free literal added
+
+-- the literals of a switch are its literal on and its literal off
+same-free : (s : Setting) (l m : Literal) → m .switch ≡ l .switch → free s m ≡ free s l
+same-free s l m e = free-is s m ∙ ap (free-switch s) e ∙ sym (free-is s l)
+
+pub plus-free : (s : Setting) (l m : Literal) → (m .switch ≡ l .switch → ⊥) → free (plus s l) m ≡ free s m
+plus-free s l m ne =
+    ap₂ (λ (a b : Bool). not a && not b) (other m ne) (other (opposite m) ne)
+  where
+    other : (k : Literal) → (k .switch ≡ l .switch → ⊥) → stands (plus s l) k ≡ stands s k
+    other k d = stands-plus s l k ∙ ap (λ (b : Bool). b || stands s k) (and-left _ _ (ne-eqb (l .switch) (k .switch) (λ e. d (sym e))))
+
+pub plus-taken : (s : Setting) (l m : Literal) → m .switch ≡ l .switch → free (plus s l) m ≡ false
+plus-taken s l m e = same-free (plus s l) l m e ∙ and-left _ _ (ap not (plus-has s l))
+
+other-switch : (s : Setting) (l : Literal) (m : ℕ) → (m - 1 ≡ l .switch - 1 → ⊥) → free-switch s m ≡ free-switch (plus s l) m
+unfolding plus
+other-switch s l m ne = at (l .on)
+  where
+    off : eqb (m - 1) (l .switch - 1) ≡ false
+    off = ne-eqb _ _ ne
+
+    word : (w : ℕ) → bit (bitOr w (2 ^ (l .switch - 1))) (m - 1) ≡ bit w (m - 1)
+    word w = bit-with w (l .switch - 1) (m - 1) ∙ ap (λ (b : Bool). b || bit w (m - 1)) off
+
+    at : (b : Bool) → free-switch s m ≡ not (bit (cond b (bitOr (s .on) (2 ^ (l .switch - 1))) (s .on)) (m - 1) || bit (cond b (s .off) (bitOr (s .off) (2 ^ (l .switch - 1)))) (m - 1))
+    at true = ap (λ (b : Bool). not (b || bit (s .off) (m - 1))) (sym (word (s .on)))
+    at false = ap (λ (b : Bool). not (bit (s .on) (m - 1) || b)) (sym (word (s .off)))
+
+-- one switch less is free
+pub free-count-plus : (s : Setting) (l : Literal) → free s l ≡ true → free-count (plus s l) + 1 ≡ free-count s
+unfolding free-count
+free-count-plus s l f =
+    kept-less (free-switch s) (free-switch (plus s l)) 1 64 (l .switch) (l .range .0) (omega (arith, l .range .1))
+    (sym (free-is s l) ∙ f)
+    (sym (free-is (plus s l) l) ∙ plus-taken s l l refl)
+    (λ m u ne. other-switch s l m (λ e. ne (omega (arith, l .range .0))))
+
+pub free-count-nothing : free-count nothing ≡ 64
+unfolding free-count nothing
+free-count-nothing = refl
+
+pub nothing-free : (l : Literal) → free nothing l ≡ true
+nothing-free l = and-from _ _ (ap not (nothing-stands l)) (ap not (nothing-stands (opposite l)))

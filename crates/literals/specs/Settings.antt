@@ -1,16 +1,19 @@
 -- Sets of literals, each two words: bit n - 1 of the one for literal n, of the other for -n.
---   stands      a literal is in the set (and its opposite is false there)
---   free        neither literal of a switch is in the set
---   nothing     the empty set
---   plus        the set with a literal added
---   _⊆_         a set is contained in another
---   set-of      the set of a list of literals
---   free-count  how many switches are free
+--   stands         a literal is in the set (and its opposite is false there)
+--   stands-number  the same, of a literal by its number
+--   free           neither literal of a switch is in the set
+--   nothing        the empty set
+--   plus           the set with a literal added
+--   minus          the set with a literal taken out
+--   _⊆_            a set is contained in another
+--   set-of         the set of a list of literals
+--   free-count     how many switches are free
 use mathlib.Core.Path.{_≡_}
 use mathlib.Core.Bool.{Bool, true, false, not, cond, _&&_, _||_}
 use mathlib.Core.List.{List, [], _∷_}
 use Prim.Native.Nat.{ℕ, _-_, _^_}
-use lib.Bits.{bitOr}
+use lib.Bits.{bitAnd, bitOr}
+use lib.IntN.{ℤ, pos, negsuc}
 use lib.ListN.{length}
 use Rattle.bits.specs.Words.{bit, kept}
 use Rattle.literals.specs.declared.literal.Literal.{Literal}
@@ -33,6 +36,18 @@ plus s l =
       on = cond (l .on) (bitOr (s .on) (2 ^ (l .switch - 1))) (s .on);
       off = cond (l .on) (s .off) (bitOr (s .off) (2 ^ (l .switch - 1)));
     }
+
+unfoldable pub minus : Setting → Literal → Setting
+minus s l =
+    record {
+      on = cond (l .on) (bitAnd (s .on) ((2 ^ 64 - 1) - 2 ^ (l .switch - 1))) (s .on);
+      off = cond (l .on) (s .off) (bitAnd (s .off) ((2 ^ 64 - 1) - 2 ^ (l .switch - 1)));
+    }
+
+-- the literal of number n stands
+unfoldable pub stands-number : Setting → ℤ → Bool
+stands-number s (pos n) = bit (s .on) (n - 1)
+stands-number s (negsuc n) = bit (s .off) n
 
 -- every literal of s stands in t
 abbrev pub _⊆_ : Setting → Setting → Type 0

@@ -1,9 +1,9 @@
 ghost use mathlib.Core.Path.{_≡_};
-ghost use mathlib.Core.Bool.{_||_};
+ghost use mathlib.Core.Bool.{_&&_, _||_, not};
 ghost use Rattle.std.specs.Orderings.{Decides};
 ghost use Rattle.literals.specs.declared.literal.Literal.{Literal as Lit};
 ghost use Rattle.literals.specs.Literals.{same, opposite};
-ghost use Rattle.literals.specs.Settings.{stands, free, plus, nothing, free-count, _⊆_};
+ghost use Rattle.literals.specs.Settings.{stands, free, minus, plus, nothing, free-count, _⊆_};
 use crate::literal::Literal;
 
 // A set of literals: bit n - 1 of the word `on` says that literal n is in it, the same bit of `off` that -n is.
@@ -60,6 +60,25 @@ impl Setting {
             Setting {
                 on: self.on,
                 off: self.off | bit,
+            }
+        }
+    }
+
+    // The set with the literal taken out.
+    pub fn without(self, l: Literal) -> Setting
+        ensures words { λ r. ⌜ r ≡ minus self l ⌝ }
+        ensures stands { λ r. ⌜ ((m : Lit) → stands r m ≡ (not (same l m) && stands self m)) ⌝ }
+    {
+        let others = !(1u64 << (l.switch - 1));
+        if l.on {
+            Setting {
+                on: self.on & others,
+                off: self.off,
+            }
+        } else {
+            Setting {
+                on: self.on,
+                off: self.off & others,
             }
         }
     }

@@ -1,7 +1,7 @@
 -- Rule numbers as places in a list, and the steps of a scan.
 use mathlib.Core.Path.{_≡_, refl, sym, ap, _∙_, subst}
 use mathlib.Core.Logic.{_⊎_, inl, inr, ⊎-elim}
-use mathlib.Core.List.{List, [], _∷_}
+use mathlib.Core.List.{List, [], _∷_, _++_, map}
 use mathlib.Core.Bool.{Bool, false}
 use Prim.Native.Nat.{ℕ, zero, suc, _+_, _-_, _≤_, _<_}
 use native.Mathlib.Omega.{arith}
@@ -65,3 +65,29 @@ module _ {R : Type 0} (breaks : R → Setting → Bool) (xs : List R) (s : Setti
 
   pub silent-all : (i : ℕ) → length xs ≤ i → SilentTo breaks xs s i → (q : ℕ) (x : R) → Numbered xs q x → Silent (breaks x) s
   silent-all i le silent q x n = let high = numbered-high n in silent q x n (omega arith)
+
+-- ---- numbers in a list made from others
+
+pub numbered-map : {R S : Type 0} (f : R → S) {xs : List R} {r : ℕ} {x : R} → Numbered xs r x → Numbered (map f xs) r (f x)
+numbered-map f first = first
+numbered-map f (later n) = later (numbered-map f n)
+
+pub map-numbered : {R S : Type 0} (f : R → S) (xs : List R) {r : ℕ} {y : S} → Numbered (map f xs) r y → (x : R) × Numbered xs r x × (f x ≡ y)
+map-numbered f [] n = elim n [ ]
+map-numbered f (x ∷ xs) first = (x, first, refl)
+map-numbered f (x ∷ xs) (later n) = let h = map-numbered f xs n in (h .0, later (h .1), h .2)
+
+pub numbered-left : {R : Type 0} {xs : List R} (ys : List R) {r : ℕ} {x : R} → Numbered xs r x → Numbered (xs ++ ys) r x
+numbered-left ys first = first
+numbered-left ys (later n) = later (numbered-left ys n)
+
+pub numbered-right : {R : Type 0} (xs : List R) {ys : List R} {r : ℕ} {x : R} → Numbered ys r x → Numbered (xs ++ ys) (length xs + r) x
+numbered-right [] {ys} {r} {x} n = let e : r ≡ 0 + r = omega arith in subst (λ (k : ℕ). Numbered ys k x) e n
+numbered-right (z ∷ xs) {ys} {r} {x} n =
+    let e : suc (length xs + r) ≡ suc (length xs) + r = omega arith in
+    subst (λ (k : ℕ). Numbered (z ∷ (xs ++ ys)) k x) e (later (numbered-right xs n))
+
+pub append-numbered : {R : Type 0} (xs ys : List R) {r : ℕ} {x : R} → Numbered (xs ++ ys) r x → Numbered xs r x ⊎ ((q : ℕ) × (r ≡ length xs + q) × Numbered ys q x)
+append-numbered [] ys {r} n = inr (r, omega arith, n)
+append-numbered (z ∷ xs) ys first = inl first
+append-numbered (z ∷ xs) ys (later n) = ⊎-elim (λ p. inl (later p)) (λ p. inr (p .0, omega (arith, p .1), p .2)) (append-numbered xs ys n)
