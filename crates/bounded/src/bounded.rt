@@ -2,7 +2,8 @@ ghost use lib.ListN.{length};
 ghost use mathlib.Core.Path.{_≡_};
 ghost use Prim.Native.Nat.{_≤_};
 
-mod methods;
+mod changing;
+mod reading;
 
 // At most N elements: the first `len` of `items`.
 #[derive(Drop)]

@@ -66,13 +66,13 @@ module _ (ns : List ℤ) (some : 1 ≤ length ns) (few : length ns ≤ 16) where
 
 -- ---- a set collected from numbers
 
-in-push : (ns : List ℤ) (n k : ℤ) → k ∈ (ns ++ n ∷ []) → (k ∈ ns) ⊎ (k ≡ n)
+pub in-push : (ns : List ℤ) (n k : ℤ) → k ∈ (ns ++ n ∷ []) → (k ∈ ns) ⊎ (k ≡ n)
 in-push [] n k (inl e) = inr e
 in-push [] n k (inr h) = inl h
 in-push (m ∷ ns) n k (inl e) = inl (inl e)
 in-push (m ∷ ns) n k (inr h) = ⊎-elim (λ p. inl (inr p)) inr (in-push ns n k h)
 
-push-in : (ns : List ℤ) (n k : ℤ) → (k ∈ ns) ⊎ (k ≡ n) → k ∈ (ns ++ n ∷ [])
+pub push-in : (ns : List ℤ) (n k : ℤ) → (k ∈ ns) ⊎ (k ≡ n) → k ∈ (ns ++ n ∷ [])
 push-in [] n k (inl h) = absurd h
 push-in [] n k (inr e) = inl e
 push-in (m ∷ ns) n k (inl (inl e)) = inl e

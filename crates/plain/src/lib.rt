@@ -61,8 +61,7 @@ pub impl<'a, R: Rule> Shelf for Plain<'a, R> as PlainShelf {
         if self.records.len() > MOST {
             return Verdict::Broken(1);
         }
-        let set = self.told.set();
-        scan(self.records, &set)
+        scan(self.records, self.told.set())
     }
 
     fn rule_count(&self) -> usize {

@@ -5,7 +5,7 @@ use mathlib.Core.List.{List, [], _∷_, _++_, map}
 use mathlib.Core.Bool.{Bool, false}
 use Prim.Native.Nat.{ℕ, zero, suc, _+_, _-_, _≤_, _<_}
 use native.Mathlib.Omega.{arith}
-use lib.ListN.{length, getD}
+use lib.ListN.{length, getD, take}
 use Rattle.std.proofs.shelf.Lists.{getD-default}
 use Rattle.std.proofs.shelf.Tests.{cases-lt}
 use Rattle.literals.specs.declared.setting.Setting.{Setting}
@@ -91,3 +91,8 @@ pub append-numbered : {R : Type 0} (xs ys : List R) {r : ℕ} {x : R} → Number
 append-numbered [] ys {r} n = inr (r, omega arith, n)
 append-numbered (z ∷ xs) ys first = inl first
 append-numbered (z ∷ xs) ys (later n) = ⊎-elim (λ p. inl (later p)) (λ p. inr (p .0, omega (arith, p .1), p .2)) (append-numbered xs ys n)
+
+pub numbered-take : {R : Type 0} (k : ℕ) {xs : List R} {r : ℕ} {x : R} → Numbered xs r x → r ≤ k → Numbered (take k xs) r x
+numbered-take zero n h = let low = numbered-low n in absurd (omega arith)
+numbered-take (suc k) first h = first
+numbered-take (suc k) (later n) h = later (numbered-take k n (omega arith))

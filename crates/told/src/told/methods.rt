@@ -29,10 +29,10 @@ impl Told {
         self.literals.len()
     }
 
-    pub fn set(&self) -> Setting
-        ensures { λ r. ⌜ r ≡ set-of (told-of (now (self .entry))) ⌝ }
+    pub fn set(&self) -> &Setting
+        ensures { λ r. ⌜ now r ≡ set-of (told-of (now (self .entry))) ⌝ }
     {
-        self.set
+        &self.set
     }
 
     pub fn as_slice(&self) -> &[Literal]
@@ -76,7 +76,7 @@ impl Told {
     fn set_of_first(&self, n: usize) -> Setting
         ensures { λ r. ⌜ r ≡ set-of (take n (told-of (now (self .entry)))) ⌝ }
     {
-        let told = self.literals.as_slice();
+        let told = self.as_slice();
         let mut set = self.set;
         for i in (n..told.len()).rev() {
             set = set.without(told[i]);

@@ -12,5 +12,5 @@ pub returns : need.returns
 returns g c =
     let rs = c .args .self .now .records .now in
     let m = g .R·Rule in
-    subst (λ (s : Setting). Answers (plain-rules (m .breaks) (m .mentions) rs) s (c .scan .result)) (c .set-set .ensures)
-    (answers-under (m .breaks) (m .mentions) rs (c .set-set .result) (c .scan .result) (c .if-self-gt-MOST .left) (c .scan .ensures))
+    subst (λ (s : Setting). Answers (plain-rules (m .breaks) (m .mentions) rs) s (c .scan .result)) (c .set .ensures)
+    (answers-under (m .breaks) (m .mentions) rs (c .set .result .now) (c .scan .result) (c .if-self-gt-MOST .left) (c .scan .ensures))

@@ -17,12 +17,6 @@ impl<T: Copy, const N: usize> Bounded<T, N> {
         }
     }
 
-    pub fn len(&self) -> usize
-        ensures { λ r. ⌜ r ≡ length (held (now (self .entry))) ⌝ }
-    {
-        self.len
-    }
-
     // Puts x behind the last; false, and nothing done, where there is no room.
     pub fn push(&mut self, x: T) -> bool
         ensures room { λ r. ⌜ r ≡ ltb (length (held (now (self .entry)))) N ⌝ }
@@ -43,12 +37,5 @@ impl<T: Copy, const N: usize> Bounded<T, N> {
         if n < self.len {
             self.len = n;
         }
-    }
-
-    pub fn as_slice(&self) -> &[T]
-        ensures { λ r. ⌜ now r ≡ held (now (self .entry)) ⌝ }
-    {
-        let all = &self.items[..];
-        &all[0..self.len]
     }
 }

@@ -1,0 +1,5 @@
+pub mod Views
+pub mod Calls
+pub mod Runs
+pub mod Reasons
+pub mod Laws
