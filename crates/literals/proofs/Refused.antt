@@ -37,3 +37,12 @@ passed-before [] ds p = refl
 passed-before (c ∷ cs) ds p =
     let past = past-check (c .fails) (c .refusal) (first-failed cs) p in
     ap (λ (b : Bool). cond b (Some (c .refusal)) (first-failed (cs ++ ds))) (past .0) ∙ passed-before cs ds (past .1)
+
+-- where none failed, each passed
+abbrev pub Passed : List Check → Type 0
+Passed [] = Unit {0}
+Passed (c ∷ cs) = (c .fails ≡ false) × Passed cs
+
+pub passed : (cs : List Check) → None ≡ first-failed cs → Passed cs
+passed [] p = tt
+passed (c ∷ cs) p = let past = past-check (c .fails) (c .refusal) (first-failed cs) p in (past .0, passed cs (past .1))

@@ -13,7 +13,7 @@ use Rattle.std.proofs.shelf.Bits.{pow-below}
 use Rattle.std.proofs.shelf.Tests.{and-parts, or-left, or-right, or-cases, not-true}
 use Rattle.std.proofs.shelf.Ways.{tells}
 use Rattle.bits.specs.Words.{bit}
-use Rattle.bits.proofs.Bits.{bit-with, bit-without, bit-zero, has-bits, or-same, with-without}
+use Rattle.bits.proofs.Bits.{word-same, bit-with, bit-without, bit-zero, has-bits, or-same, with-without}
 use Rattle.literals.specs.declared.literal.Literal.{Literal}
 use Rattle.literals.specs.declared.setting.Setting.{Setting}
 use Rattle.literals.specs.Literals.{number, opposite, same}
@@ -166,3 +166,14 @@ module _ (s t : Setting) where
       at j f =
           let n : (j + 1) - 1 ≡ j = omega arith in
           subst (λ (i : ℕ). bit (cond b (s .on) (s .off)) i ≡ true → bit (cond b (t .on) (t .off)) i ≡ true) n f
+
+-- sets with the same literals are one
+pub set-same : (s t : Setting) → Fits s → Fits t → ((l : Literal) → stands s l ≡ stands t l) → s ≡ t
+unfolding stands
+set-same s t f g h =
+    ap₂ (λ (a b : ℕ). record { on = a; off = b }) (word-same 64 (s .on) (t .on) (f .0) (g .0) (λ j lt. at true j lt)) (word-same 64 (s .off) (t .off) (f .1) (g .1) (λ j lt. at false j lt))
+  where
+    at : (b : Bool) (j : ℕ) → j < 64 → bit (cond b (s .on) (s .off)) j ≡ bit (cond b (t .on) (t .off)) j
+    at b j lt =
+        let n : (j + 1) - 1 ≡ j = omega arith in
+        subst (λ (i : ℕ). bit (cond b (s .on) (s .off)) i ≡ bit (cond b (t .on) (t .off)) i) n (h (record { switch = j + 1; on = b; range = (omega arith, omega arith) }))

@@ -108,10 +108,13 @@ module _ (rules : List Meaning) where
     where
       n : length (c ++ y .literal ∷ []) ≡ length c + 1
       n = length-push c (y .literal)
+
       fewer : k ≤ length c → take k (c ++ y .literal ∷ []) ≡ take k c
       fewer p = take-append-le k c (y .literal ∷ []) p
+
       cut : k ≤ length c → up-to k (t ++ y ∷ []) ≡ up-to k t
       cut p = above k t y (omega (arith, n))
+
       go : (k < length c → Left k c t) → (k < length c) ⊎ (length c ≤ k) → Left k (c ++ y .literal ∷ []) (t ++ y ∷ [])
       go ih (inl p) =
           let a : take k (c ++ y .literal ∷ []) ≡ take k c = fewer (omega arith) in

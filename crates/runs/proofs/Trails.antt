@@ -82,6 +82,7 @@ module _ (rules : List Meaning) (lawful : Every rules Lawful) where
     where
       law : Lawful m
       law = lawful r m at
+
       go : (b : Bool) → stands x l ≡ b → (d : Bool) → stands x (opposite l) ≡ d → stands x l ≡ true
       go true e d e′ = e
       go false e true e′ = true-false (law .grows _ x (plus-within s x (opposite l) sub e′) against) (meets r m at)

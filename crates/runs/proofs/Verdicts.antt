@@ -108,20 +108,25 @@ module _ (B : Setting → Bool) (s : Setting) (whole : B s ≡ false) where
     where
       on : Literal
       on = record { switch = n; on = true; range = (low, omega arith) }
+
       off : Literal
       off = record { switch = n; on = false; range = (low, omega arith) }
+
       before-on : (j : Literal) → Before j on → Forces B s j → ⊥
       before-on j (inl p) = none j p
       before-on j (inr p) = λ f. let z : _≡_ {A = ℕ} 0 1 = cc in omega arith
+
       more : (Forces B s on → ⊥) → (Forces B s off → ⊥) → None-below (n + 1)
       more a b j p f = ⊎-elim (λ (q : j .switch < n). none j q f) (λ (q : n ≤ j .switch). let e : j .switch ≡ n = omega arith in side e (j .on) refl f) (cases-lt (j .switch) n)
         where
           side : j .switch ≡ n → (o : Bool) → j .on ≡ o → Forces B s j → ⊥
           side e true o g = a (subst (Forces B s) (literal-same j on e o) g)
           side e false o g = b (subst (Forces B s) (literal-same j off e o) g)
+
       before-off : (Forces B s on → ⊥) → (j : Literal) → Before j off → Forces B s j → ⊥
       before-off a j (inl p) = none j p
       before-off a j (inr p) = λ g. a (subst (Forces B s) (literal-same j on (p .0) (p .1)) g)
+
       at : (None-below (n + 1) → ((l : Literal) × First B s l) ⊎ ((l : Literal) → Forces B s l → ⊥)) → Forces B s on ⊎ (Forces B s on → ⊥) → Forces B s off ⊎ (Forces B s off → ⊥) → ((l : Literal) × First B s l) ⊎ ((l : Literal) → Forces B s l → ⊥)
       at next (inl f) b = inl (on, record { forced = f; lowest = before-on })
       at next (inr a) (inl f) = inl (off, record { forced = f; lowest = before-off a })
@@ -136,12 +141,15 @@ answers-some (m ∷ ms) s = at (m .breaks s) refl (answers-some ms s)
   where
     alone : {P : Meaning → Type 0} → P m → Lowest (λ m. m .breaks) (m ∷ ms) s 1 P
     alone p = record { rule = m; numbered = first; here = p; before = λ q x n l. let low = numbered-low n in absurd (omega arith) }
+
     only : Silent (m .breaks) s → (q : ℕ) (x : Meaning) → Numbered (m ∷ []) q x → Silent (x .breaks) s
     only h q x first = h
     only h q x (later n) = elim n [ ]
+
     forced : m .breaks s ≡ false → ((l : Literal) × First (m .breaks) s l) ⊎ ((l : Literal) → Forces (m .breaks) s l → ⊥) → ((v : Verdict) × Answers ms s v) → (v : Verdict) × Answers (m ∷ ms) s v
     forced e (inl f) rest = (Forced 1 (f .0), alone (f .1))
     forced e (inr still) rest = (after 1 (rest .0), answers-second (m ∷ []) ms s (rest .0) (only (record { unbroken = e; still = still })) (rest .1))
+
     at : (b : Bool) → m .breaks s ≡ b → ((v : Verdict) × Answers ms s v) → (v : Verdict) × Answers (m ∷ ms) s v
     at true e rest = (Broken 1, alone e)
     at false e rest = forced e (first-or-none (m .breaks) s e) rest

@@ -1,6 +1,5 @@
-use borrow.Author.Needs.{needs}
-use Rattle.runs.proofs.Levels.{settle-trail, front-up-to}
+use Rattle.runs.proofs.Whole.{laws}
 use Rattle.runs.proofs.laws.laws_over_runs.Needs as need
 
 pub returns : need.returns
-returns g c = ?
+returns g c = record { laws = laws (g .S·Shelf .rules (c .args .shelf .now)) (c .laws .ensures .lawful) }
