@@ -30,7 +30,7 @@ up-to-push k (y ∷ t) x = go (leb (y .level) k) (up-to-push k t x)
     go true h = ap (λ (u : List Step). y ∷ u) h
     go false h = h
 
-above : (k : ℕ) (t : List Step) (x : Step) → k < x .level → up-to k (t ++ x ∷ []) ≡ up-to k t
+pub above : (k : ℕ) (t : List Step) (x : Step) → k < x .level → up-to k (t ++ x ∷ []) ≡ up-to k t
 above k t x h =
     let e : leb (x .level) k ≡ false = grind (arith, tells) in
     up-to-push k t x ∙ ap (λ (b : Bool). up-to k t ++ cond b (x ∷ []) []) e ∙ append-nil (up-to k t)

@@ -1,12 +1,14 @@
 -- What a call does to a session and answers.
---   checks      what is checked before a call is done, in order
---   Settles     what settling puts on a trail, and how it ends
---   SettledBy   what a settle does
---   Chose       what a choose does
---   WentBack    what going back does
---   Closed      what closing does
---   Did         what each call does
---   Does        what each call does, refusals included
+--   input-checks   what is checked of what was handed in, in order
+--   state-checks   what is checked of how things stand, in order
+--   checks         both, what was handed in first
+--   Settles        what settling puts on a trail, and how it ends
+--   SettledBy      what a settle does
+--   Chose          what a choose does
+--   WentBack       what going back does
+--   Closed         what closing does
+--   Did            what each call does
+--   Does           what each call does, refusals included
 use mathlib.Core.Path.{_≡_}
 use mathlib.Core.Bool.{Bool, true, false, not, _&&_}
 use mathlib.Core.List.{List, [], _∷_, _++_}
@@ -69,30 +71,32 @@ wrong-receipt v rule level = not (clashed-with (v .state) rule && eqb (v .level)
 abbrev pub no-level : ℕ → Bool
 no-level k = ltb 64 k
 
--- what was handed in comes first, then 28, 27 and 22 to 26
-abbrev pub checks : View → Call → List Check
-checks v Settle = check (is-shut (v .state)) refusal.Shut ∷ check (is-clashed (v .state)) refusal.ClashStands ∷ []
-checks v (Choose n) =
-    check (no-literal n) refusal.OutOfRange
-    ∷ check (is-shut (v .state)) refusal.Shut
+-- what was handed in
+abbrev pub input-checks : Call → List Check
+input-checks Settle = []
+input-checks (Choose n) = check (no-literal n) refusal.OutOfRange ∷ []
+input-checks (Back k) = check (no-level k) refusal.NoSuchPlace ∷ []
+input-checks (BackFromClash rule level k) = check (no-level k) refusal.NoSuchPlace ∷ []
+input-checks (Close rule level) = []
+
+-- how things stand: 28, 27, then 22 to 26
+abbrev pub state-checks : View → Call → List Check
+state-checks v Settle = check (is-shut (v .state)) refusal.Shut ∷ check (is-clashed (v .state)) refusal.ClashStands ∷ []
+state-checks v (Choose n) =
+    check (is-shut (v .state)) refusal.Shut
     ∷ check (is-clashed (v .state)) refusal.ClashStands
     ∷ check (is-unsettled (v .state)) refusal.Unsettled
     ∷ check (stands-number (standing (v .trail)) n) refusal.Stands
     ∷ check (stands-number (standing (v .trail)) (negℤ n)) refusal.OppositeStands
     ∷ []
-checks v (Back k) =
-    check (no-level k) refusal.NoSuchPlace
-    ∷ check (is-shut (v .state)) refusal.Shut
-    ∷ check (is-clashed (v .state)) refusal.ClashStands
-    ∷ check (leb (v .level) k) refusal.LevelNotBelow
-    ∷ []
-checks v (BackFromClash rule level k) =
-    check (no-level k) refusal.NoSuchPlace
-    ∷ check (is-shut (v .state)) refusal.Shut
-    ∷ check (wrong-receipt v rule level) refusal.WrongReceipt
-    ∷ check (leb (v .level) k) refusal.LevelNotBelow
-    ∷ []
-checks v (Close rule level) = check (is-shut (v .state)) refusal.Shut ∷ check (wrong-receipt v rule level) refusal.WrongReceipt ∷ []
+state-checks v (Back k) =
+    check (is-shut (v .state)) refusal.Shut ∷ check (is-clashed (v .state)) refusal.ClashStands ∷ check (leb (v .level) k) refusal.LevelNotBelow ∷ []
+state-checks v (BackFromClash rule level k) =
+    check (is-shut (v .state)) refusal.Shut ∷ check (wrong-receipt v rule level) refusal.WrongReceipt ∷ check (leb (v .level) k) refusal.LevelNotBelow ∷ []
+state-checks v (Close rule level) = check (is-shut (v .state)) refusal.Shut ∷ check (wrong-receipt v rule level) refusal.WrongReceipt ∷ []
+
+abbrev pub checks : View → Call → List Check
+checks v c = input-checks c ++ state-checks v c
 
 -- ---- what is done
 

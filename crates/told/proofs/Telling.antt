@@ -22,18 +22,22 @@ use Rattle.literals.proofs.Standing.{free-parts, number-stands, minus-plus, plu
 use Rattle.literals.proofs.Refused.{past-check}
 use Rattle.lists.specs.Lists.{mentioned, distinct}
 use Rattle.lists.proofs.Sets.{plus-all-push, distinct-push, distinct-take, free-new, new-free, last-new, room}
-use Rattle.told.specs.Tellings.{tell-checks}
+use Rattle.told.specs.Tellings.{free-checks, tell-checks}
 
 -- the checks of a number that is that of l
-pub tell-by : (ls : List Literal) (l : Literal) (m n : ℤ) (s : Setting) (a b : Bool) → m ≡ n → number l ≡ m → s ≡ set-of ls
-    → None ≡ cond (no-literal m) (Some OutOfRange) None → a ≡ stands s l → b ≡ stands s (opposite l) → first-failed (tell-checks ls n) ≡ cond a (Some Stands) (cond b (Some OppositeStands) None)
-tell-by ls l m n s a b e at same r p q =
+pub free-by : (l : Literal) (m n : ℤ) (s : Setting) (a b : Bool) → m ≡ n → number l ≡ m → None ≡ cond (no-literal m) (Some OutOfRange) None
+    → a ≡ stands s l → b ≡ stands s (opposite l) → first-failed (free-checks s n) ≡ cond a (Some Stands) (cond b (Some OppositeStands) None)
+free-by l m n s a b e at r p q =
     let is = at ∙ e in
     let inside = ap no-literal (sym e) ∙ past-check (no-literal m) OutOfRange None r .0 in
-    ap (λ (x : Bool). cond x (Some OutOfRange) (cond (stands-number (set-of ls) n) (Some Stands) (cond (stands-number (set-of ls) (negℤ n)) (Some OppositeStands) None))) inside
+    ap (λ (x : Bool). cond x (Some OutOfRange) (cond (stands-number s n) (Some Stands) (cond (stands-number s (negℤ n)) (Some OppositeStands) None))) inside
     ∙ ap₂ (λ (x y : Bool). cond x (Some Stands) (cond y (Some OppositeStands) None))
-    (ap₂ stands-number (sym same) (sym is) ∙ number-stands s l ∙ sym p)
-    (ap₂ stands-number (sym same) (ap negℤ (sym is) ∙ sym (number-opposite l)) ∙ number-stands s (opposite l) ∙ sym q)
+    (ap (stands-number s) (sym is) ∙ number-stands s l ∙ sym p)
+    (ap (stands-number s) (ap negℤ (sym is) ∙ sym (number-opposite l)) ∙ number-stands s (opposite l) ∙ sym q)
+
+pub tell-by : (ls : List Literal) (l : Literal) (m n : ℤ) (s : Setting) (a b : Bool) → m ≡ n → number l ≡ m → s ≡ set-of ls
+    → None ≡ cond (no-literal m) (Some OutOfRange) None → a ≡ stands s l → b ≡ stands s (opposite l) → first-failed (tell-checks ls n) ≡ cond a (Some Stands) (cond b (Some OppositeStands) None)
+tell-by ls l m n s a b e at same r p q = ap (λ (t : Setting). first-failed (free-checks t n)) (sym same) ∙ free-by l m n s a b e at r p q
 
 -- ---- a literal told
 
@@ -65,7 +69,7 @@ back-one xs k l s s′ d p q is e f =
     let off : stands (set-of ls) l ≡ false = free-parts (set-of ls) l (new-free ls l new) .0 in
     f ∙ ap (λ (t : Setting). minus t l) (e ∙ ap set-of m ∙ plus-all-push nothing ls l) ∙ minus-plus (set-of ls) l (plus-all-fits nothing ls nothing-fits) off
 
-pub back-all : (xs : List Literal) (k n : ℕ) → k ≤ n → min n (length xs) ≤ k → take k xs ≡ take n xs
+pub back-all : {A : Type 0} (xs : List A) (k n : ℕ) → k ≤ n → min n (length xs) ≤ k → take k xs ≡ take n xs
 back-all xs k n le ge = ⊎-elim short long (cases-lt n (length xs))
   where
     short : n < length xs → take k xs ≡ take n xs

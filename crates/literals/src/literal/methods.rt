@@ -33,6 +33,17 @@ impl Literal {
         }
     }
 
+    // The same of a wider number.
+    pub fn of_number(n: i32) -> Result<Literal, Refusal>
+        ensures refused { λ r. ⌜ refusal-of r ≡ cond (no-literal n) (Some Refusal.OutOfRange) None ⌝ }
+        ensures literal { λ r. ⌜ made r (λ l. number l ≡ n) ⌝ }
+    {
+        match i16::try_from(n) {
+            Ok(small) => Literal::new(small),
+            Err(_) => Err(Refusal::OutOfRange),
+        }
+    }
+
     // The literal that says that the switch is on, or off.
     pub fn of(switch: u8, on: bool) -> Result<Literal, Refusal>
         ensures refused { λ r. ⌜ refusal-of r ≡ cond (no-switch switch) (Some Refusal.OutOfRange) None ⌝ }
