@@ -19,7 +19,7 @@ use Rattle.std.proofs.shelf.Tests.{ltb-false, le-ltb}
 use Rattle.std.proofs.shelf.Ways.{tells}
 use Rattle.literals.specs.declared.literal.Literal.{Literal}
 use Rattle.literals.specs.declared.refusal.Refusal.{Refusal}
-use Rattle.literals.specs.declared.refusal.Refusal.the-variants.{OutOfRange, NoSuchPlace, FewerTold}
+use Rattle.literals.specs.declared.refusal.Refusal.the-variants.{OutOfRange, NoSuchPlace}
 use Rattle.literals.specs.declared.setting.Setting.{Setting}
 use Rattle.literals.specs.Literals.{no-switch}
 use Rattle.literals.specs.Refusals.{first-failed, refusal-of}
@@ -28,6 +28,7 @@ use Rattle.literals.proofs.Known.{number-same}
 use Rattle.rules.specs.declared.Verdict.{Verdict}
 use Rattle.rules.specs.declared.Verdict.the-variants.{Quiet, Broken, Forced}
 use Rattle.told.specs.Tellings.{Appended, tell-checks, back-checks}
+use Rattle.told.proofs.Telling.{took-back}
 use Rattle.shelf.specs.Meanings.{Meaning, Answers, OfRule, shut, no-rule, letter-checks, mention-checks}
 use Rattle.rules.specs.Scans.{first}
 use Rattle.shelf.proofs.Caps.{shut-answers, letter-there, mention-there}
@@ -38,11 +39,7 @@ use Rattle.pair.specs.Pairs.{pair-letter, pair-rules}
 
 -- what is taken back to none is none
 pub none-left : (E : Type 0) (r : Result (Unit {0}) Refusal) (ts us : List Literal) → refusal-of r ≡ first-failed (back-checks ts 0) → Cases r (λ _. us ≡ take 0 ts) (λ _. E) → us ≡ []
-none-left E (Ok _) ts us e h = h
-none-left E (Err x) ts us e h = absurd (never (ltb (length ts) 0) (le-ltb (length ts) 0 (omega arith)) e)
-  where
-    never : (b : Bool) → b ≡ false → Some x ≡ cond b (Some FewerTold) None → ⊥
-    never b p q = let z : _≡_ {A = ℕ} 0 1 = cc in omega arith
+none-left E r ts us e h = took-back E r ts us 0 (omega arith) e h
 
 -- one literal at the end of the same list
 pub same-told : (ts us ts′ us′ : List Literal) (n : ℤ) → ts ≡ us → Appended ts n ts′ → Appended us n us′ → ts′ ≡ us′

@@ -58,7 +58,7 @@ module _ (rules : List Meaning) (level : ℕ) where
       let e = forced-parts q r k l (answers-one rules (standing t) _ _ b a) in
       settles-one s (subst (λ (m : Literal). Settles rules level (t ++ step m level r ∷ []) u v) (e .1) (subst (λ (n : ℕ). Settles rules level (t ++ step k level n ∷ []) u v) (e .0) s′))
 
-  settles-answer : {t u : List Step} {v : Verdict} → Settles rules level t u v → Answers rules (standing u) v
+  pub settles-answer : {t u : List Step} {v : Verdict} → Settles rules level t u v → Answers rules (standing u) v
   settles-answer (quiet a) = a
   settles-answer (broken a) = a
   settles-answer (locks a s) = settles-answer s

@@ -47,7 +47,7 @@ standing-push t x = ap set-of (literals-push t x) ∙ plus-all-push nothing (lit
 
 -- ---- each switch stands once
 
-once-more : (t : List Step) (x : Step) → free (standing t) (x .literal) ≡ true → distinct (literals-on t) ≡ true → distinct (literals-on (t ++ x ∷ [])) ≡ true
+pub once-more : (t : List Step) (x : Step) → free (standing t) (x .literal) ≡ true → distinct (literals-on t) ≡ true → distinct (literals-on (t ++ x ∷ [])) ≡ true
 once-more t x f d = ap distinct (literals-push t x) ∙ distinct-push (literals-on t) (x .literal) d (free-new (literals-on t) (x .literal) f)
 
 pub once : (rules : List Meaning) {c : List Literal} {t : List Step} → Trail rules c t → distinct (literals-on t) ≡ true

@@ -1,1 +1,3 @@
 pub mod Logs
+pub mod Sessions
+pub mod Outcomes

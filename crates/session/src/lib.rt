@@ -1,4 +1,10 @@
 // A session over any shelf: settle, choose, go back, close, and what it tells in every state.
 mod log;
+mod receipt;
+mod session;
 
 pub use log::Log;
+pub use receipt::Outcome;
+pub use receipt::Receipt;
+pub use receipt::Returned;
+pub use session::Session;

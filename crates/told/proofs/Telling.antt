@@ -9,20 +9,24 @@ use lib.Dec.{ltb}
 use lib.IntN.{ℤ, negℤ}
 use lib.ListN.{length, take, getD}
 use Rattle.std.specs.declared.option.Option.the-variants.{Some, None}
+use Rattle.std.specs.declared.result.Result.{Result}
+use Rattle.std.specs.declared.result.Result.the-variants.{Ok, Err}
+use Rattle.std.specs.Results.{Cases}
 use Rattle.std.proofs.shelf.Lists.{take-more, take-all}
-use Rattle.std.proofs.shelf.Tests.{and-from, cases-lt, lt-ltb}
+use Rattle.std.proofs.shelf.Tests.{and-from, or-from, cases-lt, lt-ltb, le-ltb}
 use Rattle.literals.specs.declared.literal.Literal.{Literal}
-use Rattle.literals.specs.declared.refusal.Refusal.the-variants.{OutOfRange, Stands, OppositeStands}
+use Rattle.literals.specs.declared.refusal.Refusal.{Refusal}
+use Rattle.literals.specs.declared.refusal.Refusal.the-variants.{OutOfRange, Stands, OppositeStands, FewerTold}
 use Rattle.literals.specs.declared.setting.Setting.{Setting}
-use Rattle.literals.specs.Literals.{number, opposite, no-literal}
-use Rattle.literals.specs.Refusals.{first-failed}
+use Rattle.literals.specs.Literals.{number, opposite, no-literal, no-switch}
+use Rattle.literals.specs.Refusals.{first-failed, refusal-of}
 use Rattle.literals.specs.Settings.{stands, stands-number, free, plus, minus, nothing, set-of}
-use Rattle.literals.proofs.Known.{number-opposite}
+use Rattle.literals.proofs.Known.{number-opposite, number-same, number-size}
 use Rattle.literals.proofs.Standing.{free-parts, number-stands, minus-plus, plus-all-fits, nothing-fits}
 use Rattle.literals.proofs.Refused.{past-check}
 use Rattle.lists.specs.Lists.{mentioned, distinct}
 use Rattle.lists.proofs.Sets.{plus-all-push, distinct-push, distinct-take, free-new, new-free, last-new, room}
-use Rattle.told.specs.Tellings.{free-checks, tell-checks}
+use Rattle.told.specs.Tellings.{free-checks, tell-checks, back-checks, Appended}
 
 -- the checks of a number that is that of l
 pub free-by : (l : Literal) (m n : ℤ) (s : Setting) (a b : Bool) → m ≡ n → number l ≡ m → None ≡ cond (no-literal m) (Some OutOfRange) None
@@ -77,3 +81,29 @@ back-all xs k n le ge = ⊎-elim short long (cases-lt n (length xs))
 
     long : length xs ≤ n → take k xs ≡ take n xs
     long h = take-all k xs (omega arith) ∙ sym (take-all n xs h)
+
+-- ---- a shelf that is told a free literal, or takes back no more than it was told, does not refuse
+
+pub tells-free : (E : Type 0) (ls after : List Literal) (l : Literal) (n : ℤ) (r : Result (Unit {0}) Refusal) → number l ≡ n → free (set-of ls) l ≡ true
+    → refusal-of r ≡ first-failed (tell-checks ls n) → Cases r (λ _. Appended ls n after) (λ _. E) → after ≡ ls ++ l ∷ []
+tells-free E ls after l n (Ok u) e f q h = h .end ∙ ap (λ (k : Literal). ls ++ k ∷ []) (number-same (h .literal) l (h .is ∙ sym e))
+tells-free E ls after l n (Err x) e f q h =
+    let p = free-parts (set-of ls) l f in
+    let taken = tell-by ls l (number l) n (set-of ls) false false e refl refl (inside l) (sym (p .0)) (sym (p .1)) in
+    let z : _≡_ {A = ℕ} 0 1 = cc in
+    absurd (omega arith)
+  where
+    inside : (l : Literal) → None ≡ cond (no-literal (number l)) (Some OutOfRange) None
+    inside l =
+        let a = l .range .0 in
+        let b = l .range .1 in
+        let e : no-literal (number l) ≡ no-switch (l .switch) = ap no-switch (number-size l) in
+        ap (λ (b : Bool). cond b (Some OutOfRange) None) (sym (e ∙ or-from _ _ (le-ltb (l .switch) 1 a) (le-ltb 64 (l .switch) b)))
+
+pub took-back : (E : Type 0) (r : Result (Unit {0}) Refusal) (ts us : List Literal) (n : ℕ) → n ≤ length ts → refusal-of r ≡ first-failed (back-checks ts n)
+    → Cases r (λ _. us ≡ take n ts) (λ _. E) → us ≡ take n ts
+took-back E (Ok _) ts us n h e q = q
+took-back E (Err x) ts us n h e q =
+    let b : ltb (length ts) n ≡ false = le-ltb (length ts) n h in
+    let z : _≡_ {A = ℕ} 0 1 = cc in
+    absurd (omega arith)

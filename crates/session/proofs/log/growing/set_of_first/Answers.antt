@@ -15,10 +15,11 @@ pub loop-i-again : need.loop-i-again
 loop-i-again c =
     let t = c .args .steps .now in
     let lt = c .loop-i-test .taken in
-    let x = c .index-steps-i .result in
-    (set-less t (c .loop-i .i) x (c .loop-i .left) (c .without-left .result) (c .pre .once) (omega arith) (c .loop-i .kept .i) (c .index-steps-i .is) (c .loop-i .inv .0)
-      (c .without-left .ensures .words ∙ ap (λ (y : Step). minus (c .loop-i .left) (y .literal)) (sym (c .index-steps-i .is))),
-    omega (arith, c .loop-i .inv .1))
+    let x = c .index-steps-i .result in (
+      set-less t (c .loop-i .i) x (c .loop-i .left) (c .without-left .result) (c .pre .once) (omega arith) (c .loop-i .kept .i) (c .index-steps-i .is) (c .loop-i .inv .0)
+          (c .without-left .ensures .words ∙ ap (λ (y : Step). minus (c .loop-i .left) (y .literal)) (sym (c .index-steps-i .is))),
+      omega (arith, c .loop-i .inv .1),
+    )
 
 pub returns : need.returns
 returns c = c .loop-i .inv .0 ∙ ap standing (back-all (c .args .steps .now) (c .loop-i .i) (c .args .n) (c .loop-i-test .left) (c .loop-i .inv .1))
