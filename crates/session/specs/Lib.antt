@@ -1,3 +1,4 @@
 pub mod Logs
+pub mod Positions
 pub mod Sessions
 pub mod Outcomes

@@ -1,4 +1,5 @@
 mod calls;
+mod tells;
 
 use crate::log::Log;
 

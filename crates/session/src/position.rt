@@ -1,0 +1,9 @@
+mod reading;
+
+// What is told of a switch.
+#[derive(Clone, Copy)]
+pub enum Position {
+    On,
+    Off,
+    Free,
+}
