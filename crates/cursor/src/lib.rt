@@ -1,3 +1,5 @@
+#![tactic(auto)]
+
 // A reader over the bytes of a rulebook, which hands out each field as a part of the text, with its place.
 mod field;
 mod reader;

@@ -1,3 +1,5 @@
+#![tactic(auto)]
+
 // What the lines of a rulebook say: the names line gives the order of the columns, every other line a value for each of them.
 mod column;
 mod entry;

@@ -1,3 +1,5 @@
+#![tactic(auto)]
+
 // Lists of literals, as callers hand them in and as rules hold them.
 mod held;
 mod slices;

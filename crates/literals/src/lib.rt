@@ -1,3 +1,5 @@
+#![tactic(auto)]
+
 // Literals of 64 switches, sets of literals, and why a call is refused.
 mod literal;
 mod refusal;

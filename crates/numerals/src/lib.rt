@@ -1,3 +1,5 @@
+#![tactic(auto)]
+
 // Numbers as a rulebook writes them: one to nine digits with no zero before another digit, and a minus in front where a
 // negative number may stand.
 ghost use Rattle.std.specs.Prelude.{◌≡◌, ℕ, ◌^◌, ◌<◌, ℤ, pos, neg_ℤ, ◌<ℤ◌, Decides, MatchOption};

@@ -1,3 +1,5 @@
+#![tactic(auto)]
+
 // The pair, letter x: a shelf made over two shelves. Its rules are the first's and then the second's, with numbers continued,
 // each with the letter of the shelf that holds it.
 ghost use Rattle.std.specs.Prelude.{◌≡◌, []};

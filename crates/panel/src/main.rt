@@ -1,3 +1,5 @@
+#![tactic(auto)]
+
 // Says what the bakery's supply limit makes of sets of literals: of one set, from the arguments, or of one on each line of
 // the standard input. A literal is given by its number.
 mod sets;

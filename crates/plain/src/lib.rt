@@ -1,3 +1,5 @@
+#![tactic(auto)]
+
 // The plain shelf, letter p: the caller's records of any kind of rule, scanned at every question.
 ghost use Rattle.std.specs.Prelude.{◌≡◌, []};
 ghost use Rattle.plain.specs.Plains.{plain_rules};

@@ -1,3 +1,5 @@
+#![tactic(auto)]
+
 // Why a switch stands: the rule that locked it, and the chosen switches that it is reached from.
 ghost use Rattle.std.specs.Prelude.{◌≡◌, ◌+◌, ◌<◌, true, length, IfOk, Decides};
 ghost use Rattle.literals.specs.Refusals.{first_failed, refusal_of};

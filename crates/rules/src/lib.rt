@@ -1,3 +1,5 @@
+#![tactic(auto)]
+
 // What every kind of rule has in common, and the scan of a list of rules.
 ghost use Rattle.std.specs.Prelude.{◌≡◌, ℕ, Bool, Decides};
 ghost use Rattle.literals.specs.declared.setting.Setting.{Setting};

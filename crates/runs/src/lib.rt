@@ -1,3 +1,5 @@
+#![tactic(auto)]
+
 // What a session does, call by call, and what holds after every list of calls, whatever the shelf.
 mod calls;
 mod laws;

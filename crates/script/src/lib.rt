@@ -1,3 +1,5 @@
+#![tactic(auto)]
+
 // Whole lists of calls: a session that is driven by requests, and two sessions compared.
 mod comparing;
 mod player;

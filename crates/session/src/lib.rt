@@ -1,3 +1,5 @@
+#![tactic(auto)]
+
 // A session over any shelf: settle, choose, go back, close, and what it tells in every state.
 mod log;
 mod position;

@@ -1,3 +1,5 @@
+#![tactic(auto)]
+
 // What every kind of shelf has in common.
 mod letter;
 mod lettered;

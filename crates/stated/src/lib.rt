@@ -1,3 +1,5 @@
+#![tactic(auto)]
+
 // Rules as a rulebook states them, line by line, and what is checked of them.
 mod clause;
 mod pending;

@@ -1,3 +1,5 @@
+#![tactic(auto)]
+
 // The supply limit of a bakery's oven, and worked facts about it and other rules.
 ghost use Rattle.std.specs.Prelude.{◌≡◌, IfOk, None, Ok};
 ghost use Rattle.linear.specs.Linears.{terms_of};

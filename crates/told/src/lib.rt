@@ -1,3 +1,5 @@
+#![tactic(auto)]
+
 // The literals that a shelf was told, in order, with the set of them.
 mod told;
 
