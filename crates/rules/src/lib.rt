@@ -56,7 +56,7 @@ pub enum Verdict {
 
 // The lowest-numbered rule that is broken or forces a literal.
 pub fn scan<R: Rule>(records: &[R], set: &Setting) -> Verdict
-    ensures { Scans breaks records.now set.now result }
+    ensures { Scans R.breaks records.now set.now result }
 {
     for (i, record) in records.iter().enumerate() {
         if record.is_broken(set) {

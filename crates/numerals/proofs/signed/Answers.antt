@@ -5,7 +5,7 @@ use Rattle.numerals.specs.Numerals.{plain}
 use Rattle.numerals.proofs.Reading.{minus_none, minus-zero, minus_written, plain_none}
 use Rattle.numerals.proofs.Writing.{decimal_writes}
 use Rattle.numerals.proofs.signed.Goals as goal
-use Rattle.numerals.proofs.signed.Goals.{in-default-via-then-text-lt1, in-default-via-else-text-lt1+in-default·}
+use Rattle.numerals.proofs.signed.Goals.{in_default-via-then-text-lt1, in_default-via-else-text-lt1+in_default-1}
 
 pub returns-then-size-eq0 : goal.returns-then-size-eq0
 returns-then-size-eq0 c = minus-zero _ (search rules) (search rules) _ c.if-size-eq0.true c.in-Some.ensures.0
@@ -28,5 +28,5 @@ returns-in-Some-unsigned c =
 pub returns-in-None-unsigned : goal.returns-in-None-unsigned
 returns-in-None-unsigned c =
     plain_none _
-    (λ e. elim c.in-default.branch [ in-default-via-then-text-lt1 w ↦ omega (arith, get_or_past c.args.text.now 0 0 (search rules)) | in-default-via-else-text-lt1+in-default· w ↦ search rules ])
+    (λ e. elim c.in_default.branch [ in_default-via-then-text-lt1 w ↦ omega (arith, get_or_past c.args.text.now 0 0 (search rules)) | in_default-via-else-text-lt1+in_default-1 w ↦ search rules ])
     c.in-None-unsigned.ensures

@@ -4,17 +4,17 @@ use Rattle.numerals.specs.Numerals.{read_on}
 use Rattle.numerals.proofs.Reading.{room, nine, grown}
 use Rattle.numerals.proofs.unsigned.Goals as goal
 
-pub overflow-mul-n : goal.overflow-mul-n
-overflow-mul-n c = let h : c.loop-d.n < 10 ^ 8 = room _ c.loop-d.d-index c.loop-d.invariant.1 (omega arith) in omega arith
+pub overflow_mul-n : goal.overflow_mul-n
+overflow_mul-n c = let h : c.loop-d.n < 10 ^ 8 = room _ c.loop-d.d-index c.loop-d.invariant.1 (omega arith) in omega arith
 
 -- the digit that is read has a value of at most 9
 digit_small : (c : goal.After-from) → c.from.result ≤ 9
 digit_small c =
-    let d = c.all-digits.ensures.0 c.if-not-all-digits.false c.loop-d.d-index c.loop-d-test.true in
+    let d = c.all_digits.ensures.0 c.if-not-all_digits.false c.loop-d.d-index c.loop-d-test.true in
     omega (arith, d.0, d.1, c.from.ensures)
 
-pub overflow-add-n : goal.overflow-add-n
-overflow-add-n c =
+pub overflow_add-n : goal.overflow_add-n
+overflow_add-n c =
     let h : c.loop-d.n < 10 ^ 8 = room _ c.loop-d.d-index c.loop-d.invariant.1 (omega arith) in
     omega (arith, digit_small c)
 
@@ -30,7 +30,7 @@ returns c =
       record {
         some = search rules;
         few = search rules;
-        digits = c.all-digits.ensures.0 c.if-not-all-digits.false;
+        digits = c.all_digits.ensures.0 c.if-not-all_digits.false;
         lead = λ z. elim c.else-digits-eq48.either [ inl w ↦ search rules | inr w ↦ search rules ];
         value = cc;
       },

@@ -3,8 +3,8 @@ use Rattle.runs.specs.declared.step.Step.{Step}
 use Rattle.reasons.proofs.Explaining.{explains, free_refused, place_step, place_within, standing_told, trail_because, trail_once}
 use Rattle.reasons.proofs.explain.Goals as goal
 
-pub offset-bounds-steps-place : goal.offset-bounds-steps-place
-offset-bounds-steps-place g c =
+pub offset_bounds-steps-place : goal.offset_bounds-steps-place
+offset_bounds-steps-place g c =
     let within : c.in-Some.place < length c.args.steps.now = place_within c.args.steps.now c.in-Some.place c.args.switch c.in-Some.ensures in
     search rules
 

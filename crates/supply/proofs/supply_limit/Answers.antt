@@ -14,11 +14,11 @@ at_degree d e = omega arith
 
 pub returns : goal.returns
 returns c =
-    let e = c.at-most.ensures in
+    let e = c.at_most.ensures in
     record {
       taken = e.refused;
-      terms = made_both c.at-most.result (λ (x : Linear). weights (terms_of x) ≡ weights limit_terms) (λ (x : Linear). map number (literals (terms_of x)) ≡ map number (literals limit_terms))
+      terms = made_both c.at_most.result (λ (x : Linear). weights (terms_of x) ≡ weights limit_terms) (λ (x : Linear). map number (literals (terms_of x)) ≡ map number (literals limit_terms))
           (λ (x : Linear). terms_of x ≡ limit_terms) (λ x p q. terms_same (terms_of x) limit_terms p q) e.weights e.literals;
-      degree = IfOk-weaker c.at-most.result (λ (x : Linear). x.degree + 40 ≡ 64) (λ (x : Linear). x.degree ≡ limit_degree) (λ x h. at_degree x.degree h) e.degree;
+      degree = IfOk-weaker c.at_most.result (λ (x : Linear). x.degree + 40 ≡ 64) (λ (x : Linear). x.degree ≡ limit_degree) (λ x h. at_degree x.degree h) e.degree;
       facts = worked_facts_hold;
     }

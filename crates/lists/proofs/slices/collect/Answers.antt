@@ -6,14 +6,14 @@ use Rattle.lists.specs.Lists.{Collects}
 use Rattle.lists.proofs.Reading.{outside_here, inside_more, inside_all, collects_none, collects_more}
 use Rattle.lists.proofs.slices.collect.Goals as goal
 
-pub returns-in-err-literal : goal.returns-in-err-literal
-returns-in-err-literal c =
+pub returns-in_err-literal : goal.returns-in_err-literal
+returns-in_err-literal c =
     let ns = c.args.numbers.now in
     let i = c.loop-n.n-index in
     let n : ℤ = to_z w16 (of_z w16 (get_or ns i (pos 0))) in
     let is : n ≡ get_or ns i (pos 0) = search rules in
-    let here = outside_here ns i n c.loop-n-test.true is _ c.in-err-literal.ensures.refused in
-    let p = err_from_is_err_and c.from-residual.result c.from-residual.ensures.1 in
+    let here = outside_here ns i n c.loop-n-test.true is _ c.in_err-literal.ensures.refused in
+    let p = err_from_is_err_and c.from_residual.result c.from_residual.ensures.1 in
     rw (p.1, p.2) (record { refused = ap Some here.1 ∙ ap (λ (b : Bool). cond b (Some OutOfRange) None) (sym here.0); set = tt })
 
 pub loop-n-init : goal.loop-n-init
@@ -25,9 +25,9 @@ loop-n-preserved c =
     let i = c.loop-n.n-index in
     let n : ℤ = to_z w16 (of_z w16 (get_or ns i (pos 0))) in
     let is : n ≡ get_or ns i (pos 0) = search rules in
-    let e = c.in-ok-literal.ensures in (
+    let e = c.in_ok-literal.ensures in (
       inside_more ns i n c.loop-n-test.true is e.refused c.loop-n.invariant.0,
-      subst (Collects _) (sym c.with-set.ensures.words) (collects_more ns i n c.in-ok-literal.literal c.loop-n.set c.loop-n-test.true is e.literal c.loop-n.invariant.1),
+      subst (Collects _) (sym c.with-set.ensures.words) (collects_more ns i n c.in_ok-literal.literal c.loop-n.set c.loop-n-test.true is e.literal c.loop-n.invariant.1),
     )
 
 pub returns : goal.returns

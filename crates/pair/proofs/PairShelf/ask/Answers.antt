@@ -10,8 +10,8 @@ returns-then-self g c =
     let p = c.args.self.now in
     shut_answer (g.A.Shelf.rules p.first) (g.B.Shelf.rules p.second) p.split p.shut c.requires.splits c.requires.over c.if-self.true (set_of (g.A.Shelf.told p.first))
 
-pub overflow-add-result : goal.overflow-add-result
-overflow-add-result g c =
+pub overflow_add-result : goal.overflow_add-result
+overflow_add-result g c =
     let p = c.args.self.now in
     let xs = g.A.Shelf.rules p.first in
     let ys = g.B.Shelf.rules p.second in
@@ -19,8 +19,8 @@ overflow-add-result g c =
     let k = numbered_high c.in-Broken-ask.ensures.numbered in
     omega (arith, f, k)
 
-pub overflow-add-result-in-Forced-ask : goal.overflow-add-result-in-Forced-ask
-overflow-add-result-in-Forced-ask g c =
+pub overflow_add-result-in-Forced-ask : goal.overflow_add-result-in-Forced-ask
+overflow_add-result-in-Forced-ask g c =
     let p = c.args.self.now in
     let xs = g.A.Shelf.rules p.first in
     let ys = g.B.Shelf.rules p.second in

@@ -28,8 +28,8 @@ returns-else-rule-self g c =
     let p = c.args.self.now in
     let xs = g.A.Shelf.rules p.first in
     let ys = g.B.Shelf.rules p.second in
-    let a = c.letter-of-else-rule-self.ensures in
+    let a = c.letter_of-else-rule-self.ensures in
     record {
       refused = a.refused ∙ letter_right xs ys p.split p.shut c.requires.splits c.requires.over c.args.rule c.if-self.false c.if-rule-self.false;
-      is = is_right xs ys p.split p.shut c.requires.splits c.requires.over c.args.rule c.if-self.false c.letter-of-else-rule-self.result (λ x m. x ≡ m.letter) c.if-rule-self.false a.is;
+      is = is_right xs ys p.split p.shut c.requires.splits c.requires.over c.args.rule c.if-self.false c.letter_of-else-rule-self.result (λ x m. x ≡ m.letter) c.if-rule-self.false a.is;
     }

@@ -8,7 +8,7 @@ use Rattle.script.proofs.replaying.replay.Goals as goal
 
 pub loop-request-init : goal.loop-request-init
 loop-request-init g c =
-    let room = c.in-ok-answers.ensures in
+    let room = c.in_ok-answers.ensures in
     let opened = c.open-player.ensures in
     (opened.sound, refl, begun _ _ _ room.items opened.view, room.len, room.capacity)
 
@@ -16,9 +16,9 @@ pub loop-request-preserved : goal.loop-request-preserved
 loop-request-preserved g c =
     let i = c.loop-request.invariant in
     let next = c.play-next.ensures in
-    let push = c.push-reserved.ensures in
-    let long : vec_len c.push-reserved.new.self ≡ c.loop-request.request-index + 1 = omega (arith, push.len, i.3) in
-    let room : length c.args.requests.now ≤ vec_capacity c.push-reserved.new.self = omega (arith, push.capacity, i.4) in
+    let push = c.push_reserved.ensures in
+    let long : vec_len c.push_reserved.new.self ≡ c.loop-request.request-index + 1 = omega (arith, push.len, i.3) in
+    let room : length c.args.requests.now ≤ vec_capacity c.push_reserved.new.self = omega (arith, push.capacity, i.4) in
     (next.sound, next.rules ∙ i.1, played _ _ c.args.requests.now _ _ c.loop-request.request-index _ _ _ _ _ i.1 c.loop-request-test.true refl push.items i.2 next.plays, long, room)
 
 pub returns : goal.returns

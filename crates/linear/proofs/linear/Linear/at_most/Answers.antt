@@ -14,16 +14,16 @@ use Rattle.linear.proofs.linear.Linear.at_most.Goals as goal
 pub assembled-requires : goal.assembled-requires
 assembled-requires c =
     let ns = c.args.numbers.now in
-    let read = c.in-ok-literals.ensures in
-    let ls = literals_of c.in-ok-literals.literals in
+    let read = c.in_ok-literals.ensures in
+    let ls = literals_of c.in_ok-literals.literals in
     let ok = passed c.args.weights.now ns read.refused in
-    let e = c.as-slice.ensures.value ∙ c.opposites.ensures in
+    let e = c.as_slice.ensures.value ∙ c.opposites.ensures in
     let few = c.total-total.ensures.few in
     let lt = c.if-bound-total.false in
     record {
       long = ok.long ∙ read_long ls ns read.literals ∙ sym (length-map ls opposite) ∙ ap length (sym e);
-      some = c.as-slice.ensures.some;
-      few = c.as-slice.ensures.few;
+      some = c.as_slice.ensures.some;
+      few = c.as_slice.ensures.few;
       falling = ok.falling;
       once = ap distinct e ∙ distinct_opposites ls ∙ read_distinct ls ns read.literals ok.once;
       least = omega arith;
@@ -34,8 +34,8 @@ pub returns : goal.returns
 returns c =
     let ws = c.args.weights.now in
     let ns = c.args.numbers.now in
-    let read = c.in-ok-literals.ensures in
-    let ls = literals_of c.in-ok-literals.literals in
+    let read = c.in_ok-literals.ensures in
+    let ls = literals_of c.in_ok-literals.literals in
     let made = c.assembled.ensures in
     let total = c.total-total.ensures.sum in
     let lt = c.if-bound-total.false in
@@ -43,6 +43,6 @@ returns c =
     record {
       refused = sym (passed_before (terms_checks ws ns) (check (leb (sum ws) c.args.bound) Degree ∷ []) read.refused ∙ ap (λ (b : Bool). cond b (Some Degree) None) off);
       weights = made.weights;
-      literals = ap (map number) (made.literals ∙ c.as-slice.ensures.value ∙ c.opposites.ensures) ∙ numbers_opposites ls ∙ ap (map neg_ℤ) read.literals;
+      literals = ap (map number) (made.literals ∙ c.as_slice.ensures.value ∙ c.opposites.ensures) ∙ numbers_opposites ls ∙ ap (map neg_ℤ) read.literals;
       degree = omega (arith, made.degree);
     }

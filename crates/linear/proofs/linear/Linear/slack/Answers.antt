@@ -5,8 +5,8 @@ use Rattle.linear.specs.Slacks.{slack}
 use Rattle.linear.specs.Sums.{counted_more, slack_more}
 use Rattle.linear.proofs.linear.Linear.slack.Goals as goal
 
-pub overflow-add-slack : goal.overflow-add-slack
-overflow-add-slack c =
+pub overflow_add-slack : goal.overflow_add-slack
+overflow_add-slack c =
     let few = c.terms-t-items.ensures.few in
     let lt = c.loop-t-test.true in
     let a = c.loop-t.invariant.0 in
@@ -25,7 +25,7 @@ loop-t-preserved c =
     let e = counted_more s ts i c.t-item.result c.loop-t-test.true c.t-item.is in
     let f = c.counts.ensures in
     let a = c.loop-t.invariant.0 in
-    let fits = overflow-add-slack c in
+    let fits = overflow_add-slack c in
     (omega arith, search (rules, to_z-of_z, slack_more s ts i c.t-item.result c.loop-t-test.true c.t-item.is))
 
 pub returns : goal.returns

@@ -30,8 +30,8 @@ module _ (ws : List ℕ) (ls : List Literal) (ts : List Term) (i : ℕ) (even : 
   literals_are : literals (take i ts) ≡ take i ls → literals (take (length ws) ts) ≡ ls
   literals_are h = part_all (λ (t : Term). t.literal) ls ts i (length ws) even (omega arith) (omega arith) h
 
-pub invariant-of-result : goal.invariant-of-result
-invariant-of-result c =
+pub invariant_of-result : goal.invariant_of-result
+invariant_of-result c =
     let even = c.requires.long in
     let some = c.requires.some in
     let few = c.requires.few in

@@ -18,9 +18,9 @@ returns-in-Ok g c =
     let e = c.answered.ensures in
     let k = c.in-Ok.ensures in
     record {
-      sound = moved_sound m.sound m.rules m.told c.args.self c.answered.result.0 c.back-from-clash.new.self None c.answered.result.1 Done e.session e.held e.answer k.sound (spent_back (m.rules c.args.self.session.shelf) (seen c.args.self.session) (seen c.back-from-clash.new.self) c.in-Some.receipt.rule c.in-Some.receipt.level c.args.k k.does);
-      rules = moved_rules m.sound m.rules m.told c.args.self c.answered.result.0 c.back-from-clash.new.self None c.answered.result.1 Done e.session e.held e.answer k.rules;
-      plays = moved_plays m.sound m.rules m.told c.args.self c.answered.result.0 c.back-from-clash.new.self None c.answered.result.1 Done e.session e.held e.answer (BackFromClash c.args.k) c.in-Some.receipt.rule c.in-Some.receipt.level (λ w. subst (Hand (seen c.args.self.session)) c.in-Some.is c.requires.sound.hand) k.does;
+      sound = moved_sound m.sound m.rules m.told c.args.self c.answered.result.0 c.back_from_clash.new.self None c.answered.result.1 Done e.session e.held e.answer k.sound (spent_back (m.rules c.args.self.session.shelf) (seen c.args.self.session) (seen c.back_from_clash.new.self) c.in-Some.receipt.rule c.in-Some.receipt.level c.args.k k.does);
+      rules = moved_rules m.sound m.rules m.told c.args.self c.answered.result.0 c.back_from_clash.new.self None c.answered.result.1 Done e.session e.held e.answer k.rules;
+      plays = moved_plays m.sound m.rules m.told c.args.self c.answered.result.0 c.back_from_clash.new.self None c.answered.result.1 Done e.session e.held e.answer (BackFromClash c.args.k) c.in-Some.receipt.rule c.in-Some.receipt.level (λ w. subst (Hand (seen c.args.self.session)) c.in-Some.is c.requires.sound.hand) k.does;
     }
 
 pub returns-in-Err : goal.returns-in-Err
@@ -29,7 +29,7 @@ returns-in-Err g c =
     let e = c.answered-in-Err.ensures in
     let k = c.in-Err.ensures in
     record {
-      sound = moved_sound m.sound m.rules m.told c.args.self c.answered-in-Err.result.0 c.back-from-clash.new.self (Some c.in-Err.field-0.receipt) c.answered-in-Err.result.1 (Refused c.in-Err.field-0.refusal) e.session e.held e.answer k.sound (subst (λ x. Hand (seen c.back-from-clash.new.self) (Some x)) (sym k.receipt) (same_hand (seen c.args.self.session) (seen c.back-from-clash.new.self) (Some c.in-Some.receipt) (ap seen k.same) (subst (Hand (seen c.args.self.session)) c.in-Some.is c.requires.sound.hand)));
-      rules = moved_rules m.sound m.rules m.told c.args.self c.answered-in-Err.result.0 c.back-from-clash.new.self (Some c.in-Err.field-0.receipt) c.answered-in-Err.result.1 (Refused c.in-Err.field-0.refusal) e.session e.held e.answer k.rules;
-      plays = moved_plays m.sound m.rules m.told c.args.self c.answered-in-Err.result.0 c.back-from-clash.new.self (Some c.in-Err.field-0.receipt) c.answered-in-Err.result.1 (Refused c.in-Err.field-0.refusal) e.session e.held e.answer (BackFromClash c.args.k) c.in-Some.receipt.rule c.in-Some.receipt.level (λ w. subst (Hand (seen c.args.self.session)) c.in-Some.is c.requires.sound.hand) k.does;
+      sound = moved_sound m.sound m.rules m.told c.args.self c.answered-in-Err.result.0 c.back_from_clash.new.self (Some c.in-Err.field-0.receipt) c.answered-in-Err.result.1 (Refused c.in-Err.field-0.refusal) e.session e.held e.answer k.sound (subst (λ x. Hand (seen c.back_from_clash.new.self) (Some x)) (sym k.receipt) (same_hand (seen c.args.self.session) (seen c.back_from_clash.new.self) (Some c.in-Some.receipt) (ap seen k.same) (subst (Hand (seen c.args.self.session)) c.in-Some.is c.requires.sound.hand)));
+      rules = moved_rules m.sound m.rules m.told c.args.self c.answered-in-Err.result.0 c.back_from_clash.new.self (Some c.in-Err.field-0.receipt) c.answered-in-Err.result.1 (Refused c.in-Err.field-0.refusal) e.session e.held e.answer k.rules;
+      plays = moved_plays m.sound m.rules m.told c.args.self c.answered-in-Err.result.0 c.back_from_clash.new.self (Some c.in-Err.field-0.receipt) c.answered-in-Err.result.1 (Refused c.in-Err.field-0.refusal) e.session e.held e.answer (BackFromClash c.args.k) c.in-Some.receipt.rule c.in-Some.receipt.level (λ w. subst (Hand (seen c.args.self.session)) c.in-Some.is c.requires.sound.hand) k.does;
     }

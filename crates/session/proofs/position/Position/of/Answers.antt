@@ -11,12 +11,12 @@ returns-then-stands c =
     let s = c.args.set.now in
     positioned s l c.args.switch true (stands s (opposite l)) e.switch e.on c.if-stands.ensures refl
 
-pub returns-then-is-false : goal.returns-then-is-false
-returns-then-is-false c =
+pub returns-then-is_false : goal.returns-then-is_false
+returns-then-is_false c =
     let e = c.in-Ok.ensures in
-    positioned c.args.set.now c.in-Ok.on c.args.switch false true e.switch e.on c.if-stands.ensures c.if-is-false.ensures
+    positioned c.args.set.now c.in-Ok.on c.args.switch false true e.switch e.on c.if-stands.ensures c.if-is_false.ensures
 
-pub returns-else-is-false : goal.returns-else-is-false
-returns-else-is-false c =
+pub returns-else-is_false : goal.returns-else-is_false
+returns-else-is_false c =
     let e = c.in-Ok.ensures in
-    positioned c.args.set.now c.in-Ok.on c.args.switch false false e.switch e.on c.if-stands.ensures c.if-is-false.ensures
+    positioned c.args.set.now c.in-Ok.on c.args.switch false false e.switch e.on c.if-stands.ensures c.if-is_false.ensures

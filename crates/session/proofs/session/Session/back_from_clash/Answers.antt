@@ -7,8 +7,8 @@ returns-in-Err g c = record { sound = c.requires.sound; rules = refl; does = ref
 
 pub returns : goal.returns
 returns g c =
-    let drop = c.drop-above.ensures in
-    let d = back_from_done _ _ _ c.args.receipt.rule c.args.receipt.level c.args.k c.in-default.ensures drop.dropped.view in
+    let drop = c.drop_above.ensures in
+    let d = back_from_done _ _ _ c.args.receipt.rule c.args.receipt.level c.args.k c.in_default.ensures drop.dropped.view in
     record {
       sound = next _ _ _ _ c.requires.sound _ _ _ _ _ _ d drop.rules drop.dropped.shelf drop.dropped.left drop.dropped.set;
       rules = drop.rules;

@@ -8,5 +8,5 @@ returns-in-Err g c = record { sound = c.requires.sound; rules = refl; does = ref
 pub returns : goal.returns
 returns g c =
     let t = c.requires.sound in
-    let d = close_done _ _ c.args.receipt.rule c.args.receipt.level c.in-default.ensures in
+    let d = close_done _ _ c.args.receipt.rule c.args.receipt.level c.in_default.ensures in
     record { sound = next _ _ _ _ t _ _ _ _ _ _ d refl t.shelf t.told t.set; rules = refl; does = d; same = tt; receipt = tt }

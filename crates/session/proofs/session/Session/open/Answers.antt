@@ -3,10 +3,10 @@ use Rattle.session.proofs.session.Session.open.Goals as goal
 
 pub returns : goal.returns
 returns g c =
-    let back = c.take-back.ensures in
+    let back = c.take_back.ensures in
     record {
-      sound = opened_tied _ _ _ c.new.result back.sound (none_left _ c.take-back.result _ _ back.refused back.told) c.new.ensures.view c.new.ensures.set;
+      sound = opened_tied _ _ _ c.new.result back.sound (none_left _ c.take_back.result _ _ back.refused back.told) c.new.ensures.view c.new.ensures.set;
       rules = back.rules;
       view = c.new.ensures.view;
-      laws = c.laws-over-runs.ensures.laws;
+      laws = c.laws_over_runs.ensures.laws;
     }

@@ -11,9 +11,9 @@ returns g c =
     let t = held c.args.self.now.log.steps in
     let i = c.args.place in
     let low = c.if-place-lt1.false in
-    let high : c.args.place ≤ length (held c.args.self.now.log.steps) = omega (arith, c.if-place-trail-len.false, c.trail-len.ensures) in
+    let high : c.args.place ≤ length (held c.args.self.now.log.steps) = omega (arith, c.if-place-trail_len.false, c.trail_len.ensures) in
     let there : no_place t i ≡ false = or_from _ _ (le-ltb i 1 low) (le-ltb (length t) i high) in
     record {
       refused = ap (λ (b : Bool). cond b (Some NoSuchPlace) None) (sym there);
-      step = place_there t c.as-slice.result.now i c.index-as-slice-place.result c.as-slice.ensures low high c.index-as-slice-place.is;
+      step = place_there t c.as_slice.result.now i c.index-as_slice-place.result c.as_slice.ensures low high c.index-as_slice-place.is;
     }

@@ -5,7 +5,7 @@ use Rattle.lists.specs.Lists.{distinct}
 use Rattle.lists.proofs.Sets.{distinct-take}
 use Rattle.told.proofs.told.Told.take_back.Goals as goal
 
-pub invariant-of-self : goal.invariant-of-self
-invariant-of-self c =
+pub invariant_of-self : goal.invariant_of-self
+invariant_of-self c =
     let e = c.truncate.ensures in
-    (c.set-of-first-set.ensures ∙ ap set_of (sym e), (ap distinct e ∙ distinct-take c.args.n (held c.args.self.now.literals) c.args.self.now.once, tt))
+    (c.set_of_first-set.ensures ∙ ap set_of (sym e), (ap distinct e ∙ distinct-take c.args.n (held c.args.self.now.literals) c.args.self.now.once, tt))

@@ -8,8 +8,8 @@ use Rattle.told.proofs.told.Told.tell.Goals as goal
 pub returns-then-stands : goal.returns-then-stands
 returns-then-stands c =
     let t = c.args.self.now in
-    let l = c.in-ok-l.l in
-    let e = c.in-ok-l.ensures in
+    let l = c.in_ok-l.l in
+    let e = c.in_ok-l.ensures in
     let m : ℤ = to_z w16 (of_z w16 c.args.n) in
     let is : m ≡ c.args.n = search rules in
     record {
@@ -17,24 +17,24 @@ returns-then-stands c =
       told = refl;
     }
 
-pub returns-then-is-false : goal.returns-then-is-false
-returns-then-is-false c =
+pub returns-then-is_false : goal.returns-then-is_false
+returns-then-is_false c =
     let t = c.args.self.now in
-    let l = c.in-ok-l.l in
-    let e = c.in-ok-l.ensures in
+    let l = c.in_ok-l.l in
+    let e = c.in_ok-l.ensures in
     let m : ℤ = to_z w16 (of_z w16 c.args.n) in
     let is : m ≡ c.args.n = search rules in
     record {
-      refused = sym (tell_by (held t.literals) l m c.args.n t.set false true is e.literal t.agrees e.refused c.if-stands.ensures c.if-is-false.ensures);
+      refused = sym (tell_by (held t.literals) l m c.args.n t.set false true is e.literal t.agrees e.refused c.if-stands.ensures c.if-is_false.ensures);
       told = refl;
     }
 
-pub invariant-of-self : goal.invariant-of-self
-invariant-of-self c =
+pub invariant_of-self : goal.invariant_of-self
+invariant_of-self c =
     let t = c.args.self.now in
-    let l = c.in-ok-l.l in
+    let l = c.in_ok-l.l in
     let p = sym c.if-stands.ensures in
-    let q = sym c.if-is-false.ensures in
+    let q = sym c.if-is_false.ensures in
     let after = held c.push.new.self in (
       told_set (held t.literals) after l t.set c.with-self.result c.push.result t.agrees t.once p q c.push.ensures.room c.push.ensures.items c.with-self.ensures.words,
       (
@@ -46,12 +46,12 @@ invariant-of-self c =
 pub returns : goal.returns
 returns c =
     let t = c.args.self.now in
-    let l = c.in-ok-l.l in
-    let e = c.in-ok-l.ensures in
+    let l = c.in_ok-l.l in
+    let e = c.in_ok-l.ensures in
     let m : ℤ = to_z w16 (of_z w16 c.args.n) in
     let is : m ≡ c.args.n = search rules in
     let p = c.if-stands.ensures in
-    let q = c.if-is-false.ensures in
+    let q = c.if-is_false.ensures in
     record {
       refused = sym (tell_by (held t.literals) l m c.args.n t.set false false is e.literal t.agrees e.refused p q);
       told =

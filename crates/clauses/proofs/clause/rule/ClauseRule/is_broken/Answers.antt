@@ -10,5 +10,5 @@ turned a b e = grind arith
 pub returns : goal.returns
 returns c =
     let s = c.args.set.now in
-    turned _ _ c.is-none.ensures ∙ none_open s c.literals.result.now c.first_open.result c.first_open.ensures
+    turned _ _ c.is_none.ensures ∙ none_open s c.literals.result.now c.first_open.result c.first_open.ensures
     ∙ ap (λ (ls : List Literal). all_false s ls) c.literals.ensures.value

@@ -22,5 +22,5 @@ returns c =
     let low : lt_z c.slack-slack.result (pos 0) ≡ false = let h = c.if-slack-lt0.false in grind (arith, ints) in
     let e : lt_z (to_z w64 (of_z w64 c.slack-slack.result)) (to_z w64 (of_z w64 c.from.result)) ≡ above (terms_of r) z s l =
     ap₂ lt_z (to_z-of_z w64 _ fits ∙ c.slack-slack.ensures) (to_z-of_z w64 _ fits_weight ∙ c.from.ensures ∙ ap pos c.weight.ensures)
-    ∙ last_test (lt_z z (pos 0)) _ _ (ap (λ (k : ℤ). lt_z k (pos 0)) (sym c.slack-slack.ensures) ∙ low) (sym c.if-not-is-free.ensures) in
+    ∙ last_test (lt_z z (pos 0)) _ _ (ap (λ (k : ℤ). lt_z k (pos 0)) (sym c.slack-slack.ensures) ∙ low) (sym c.if-not-is_free.ensures) in
     record { forces = Decides-at _ _ e (decides_forces (terms_of r) r.degree s l); weighs = e }
