@@ -18,5 +18,5 @@ assembled-requires c =
       falling = ok.falling;
       once = ap distinct e ∙ read_distinct ls ns read.literals ok.once;
       least = c.if-degree-lt1.false;
-      most = c.if-degree-gt-MOST-DEGREE.false;
+      most = c.if-degree-gt-MOST_DEGREE.false;
     }

@@ -37,7 +37,15 @@ invariant_of-result c =
     let few = c.requires.few in
     let ws = weights_are c.args.weights.now c.args.literals.now c.loop-i.terms c.loop-i.i even c.loop-i.auto.i-end c.loop-i-test.false c.loop-i.invariant.1 in
     let ls = literals_are c.args.weights.now c.args.literals.now c.loop-i.terms c.loop-i.i even c.loop-i.auto.i-end c.loop-i-test.false c.loop-i.invariant.2 in
-    (c.loop-i.invariant.0, (omega arith, (omega arith, (ap distinct ls ∙ c.requires.once, (ap bad_weights ws ∙ c.requires.falling, (c.requires.least, (c.requires.most, tt)))))))
+    record {
+      whole = c.loop-i.invariant.0;
+      some = omega arith;
+      few = omega arith;
+      once = ap distinct ls ∙ c.requires.once;
+      falling = ap bad_weights ws ∙ c.requires.falling;
+      least = c.requires.least;
+      most = c.requires.most;
+    }
 
 pub returns : goal.returns
 returns c =

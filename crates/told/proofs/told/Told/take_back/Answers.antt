@@ -8,4 +8,7 @@ use Rattle.told.proofs.told.Told.take_back.Goals as goal
 pub invariant_of-self : goal.invariant_of-self
 invariant_of-self c =
     let e = c.truncate.ensures in
-    (c.set_of_first-set.ensures ∙ ap set_of (sym e), (ap distinct e ∙ distinct-take c.args.n (held c.args.self.now.literals) c.args.self.now.once, tt))
+    record {
+      agrees = c.set_of_first-set.ensures ∙ ap set_of (sym e);
+      once = ap distinct e ∙ distinct-take c.args.n (held c.args.self.now.literals) c.args.self.now.once;
+    }

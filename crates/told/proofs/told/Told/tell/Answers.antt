@@ -35,13 +35,11 @@ invariant_of-self c =
     let l = c.in_ok-l.l in
     let p = sym c.if-stands.ensures in
     let q = sym c.if-is_false.ensures in
-    let after = held c.push.new.self in (
-      told_set (held t.literals) after l t.set c.with-self.result c.push.result t.agrees t.once p q c.push.ensures.room c.push.ensures.items c.with-self.ensures.words,
-      (
-        told_once (held t.literals) after l t.set c.with-self.result c.push.result t.agrees t.once p q c.push.ensures.room c.push.ensures.items c.with-self.ensures.words,
-        tt,
-      ),
-    )
+    let after = held c.push.new.self in
+    record {
+      agrees = told_set (held t.literals) after l t.set c.with-self.result c.push.result t.agrees t.once p q c.push.ensures.room c.push.ensures.items c.with-self.ensures.words;
+      once = told_once (held t.literals) after l t.set c.with-self.result c.push.result t.agrees t.once p q c.push.ensures.room c.push.ensures.items c.with-self.ensures.words;
+    }
 
 pub returns : goal.returns
 returns c =
