@@ -27,10 +27,10 @@ overflow_sub-result g c =
     let longer = settles_longer _ _ c.in-None.ensures.ran.settles in
     omega (arith, longer, c.len-before.ensures, c.len.ensures)
 
-pub returns-in_err-letter : goal.returns-in_err-letter
-returns-in_err-letter g c =
+pub returns-in_err-letter-in-Some : goal.returns-in_err-letter-in-Some
+returns-in_err-letter-in-Some g c =
     let p = c.in-Some.ensures in
-    broken_there (g.S.Shelf.rules c.args.self.now.shelf) (g.S.Shelf.rules c.propagate.new.self.shelf) c.args.self.now.log c.propagate.new.self.log c.in-Some.rule c.in_err-letter.field-0.0 p.rules p.ran c.in_err-letter.ensures.refused
+    broken_there (g.S.Shelf.rules c.args.self.now.shelf) (g.S.Shelf.rules c.propagate.new.self.shelf) c.args.self.now.log c.propagate.new.self.log c.in-Some.rule c.in_err-letter-in-Some.field-0.0 p.rules p.ran c.in_err-letter-in-Some.ensures.refused
 
 pub returns-in-None : goal.returns-in-None
 returns-in-None g c =
@@ -44,13 +44,13 @@ returns-in-None g c =
     let d = settle_quiet _ x h n c.in_ok-admit.ensures p.ran grown in
     record { sound = next _ _ _ _ c.requires.sound _ _ _ after _ _ d p.rules p.live.shelf p.live.told p.live.set; rules = p.rules; does = d; same = tt }
 
-pub returns-in_ok-letter : goal.returns-in_ok-letter
-returns-in_ok-letter g c =
+pub returns-in_ok-letter-in-Some : goal.returns-in_ok-letter-in-Some
+returns-in_ok-letter-in-Some g c =
     let x = c.args.self.now.log in
     let p = c.in-Some.ensures in
     let r = c.in-Some.rule in
     let h : Log = c.propagate.new.self.log in
     let after : Log = record { steps = h.steps; standing = h.standing; state = Clashed r; level = h.level } in
-    let letter = subst (λ (ms : List Meaning). OfRule ms r (λ m. c.in_ok-letter.letter ≡ m.letter)) p.rules c.in_ok-letter.ensures.is in
-    let d = settle_broken _ x h r c.in_ok-letter.letter c.in_ok-admit.ensures p.ran letter in
+    let letter = subst (λ (ms : List Meaning). OfRule ms r (λ m. c.in_ok-letter-in-Some.letter ≡ m.letter)) p.rules c.in_ok-letter-in-Some.ensures.is in
+    let d = settle_broken _ x h r c.in_ok-letter-in-Some.letter c.in_ok-admit.ensures p.ran letter in
     record { sound = next _ _ _ _ c.requires.sound _ _ _ after _ _ d p.rules p.live.shelf p.live.told p.live.set; rules = p.rules; does = d; same = tt }
