@@ -1,10 +1,9 @@
 -- For a clause, to force a literal is to have it alone; so the first open literal is the only one that can be forced.
-use Rattle.std.proofs.Common.{◌≡◌, ℕ, ◌<◌, Bool, true, false, not, ◌&&◌, List, Decides, sym, ap, ◌∙◌, inl, inr, ⊎_elim, arith}
+use Rattle.std.proofs.Common.{◌≡◌, ℕ, ◌<◌, true, false, List, Decides, sym, ap, ◌∙◌, ⊎_elim, arith}
 use Rattle.std.proofs.lemmas.Bool.{and_parts, both_ways, cases_Bool}
 use Rattle.literals.specs.declared.literal.Literal.{Literal}
 use Rattle.literals.specs.declared.setting.Setting.{Setting}
-use Rattle.literals.specs.Literals.{opposite}
-use Rattle.literals.specs.Settings.{free, plus}
+use Rattle.literals.specs.Settings.{free}
 use Rattle.rules.specs.Rules.{Forces, Before, First}
 use Rattle.clauses.specs.Clauses.{all_false, alone}
 use Rattle.clauses.specs.Openings.{FirstOpen}

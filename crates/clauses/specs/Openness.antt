@@ -2,12 +2,12 @@
 use Rattle.std.specs.Prelude.{◌≡◌, ℕ, ◌+◌, ◌<◌, Bool, true, false, not, ◌&&◌, ◌||◌, List, [], ◌∷◌, ◌++◌, length, take, drop, is_some, Some, None, Option, MatchOption, slice_index_or, refl}
 use Rattle.std.proofs.Common.{sym, ap, ap₂, ◌∙◌, subst, ⊎_elim, arith}
 use Rattle.std.proofs.lemmas.List.{take_more, drop_more, take-append-drop}
-use Rattle.std.proofs.lemmas.Bool.{eq-eqb, or_left, or_right, or_parts, or_cases, and_parts, and_from, and_left, and_right, both_ways, cases_Bool}
+use Rattle.std.proofs.lemmas.Bool.{eq-eqb, or_left, or_right, or_cases, and_parts, and_from, and_left, and_right, both_ways, cases_Bool}
 use Rattle.literals.specs.declared.literal.Literal.{Literal}
 use Rattle.literals.specs.declared.setting.Setting.{Setting}
 use Rattle.literals.specs.Literals.{opposite, same}
 use Rattle.literals.specs.Settings.{stands, free, plus}
-use Rattle.literals.proofs.Known.{same_is, same_self, same_opposites}
+use Rattle.literals.proofs.Known.{same_is, same_opposites}
 use Rattle.literals.proofs.Standing.{stands-plus, free_parts}
 use Rattle.lists.specs.Lists.{mentioned}
 use Rattle.rules.specs.Rules.{Grows, Ignores}

@@ -1,5 +1,5 @@
 -- The value of one column is read, and those of the others stay; the first field that writes no value.
-use Rattle.std.proofs.Common.{◌≡◌, ℕ, true, ◌&&◌, List, [], ◌∷◌, length, get_or, ℤ, sym, refl, ap, ◌∙◌, subst, arith}
+use Rattle.std.proofs.Common.{◌≡◌, ℕ, true, ◌&&◌, List, [], ◌∷◌, length, get_or, ℤ, sym, refl, ap, subst, arith}
 use Rattle.std.proofs.lemmas.Bool.{and_parts, not-true, both_ways, eq-eqb}
 use Rattle.literals.specs.declared.refusal.Refusal.{Refusal}
 use Rattle.numerals.specs.Numerals.{Numeral, SignedNumeral}

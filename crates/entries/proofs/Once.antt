@@ -11,7 +11,7 @@ use Rattle.entries.specs.declared.kind.RuleKind.{RuleKind}
 use Rattle.entries.specs.declared.kind.RuleKind.TheVariants.{AtLeast, AtMost, Clause}
 use Rattle.entries.specs.declared.order.Order.{Order}
 use Rattle.entries.specs.declared.entry.Entry.{Entry}
-use Rattle.entries.specs.Columns.{name_of, code_of, differ, apart}
+use Rattle.entries.specs.Columns.{name_of, code_of, apart}
 use Rattle.entries.proofs.Columns.{columns_apart}
 use Rattle.entries.specs.Kinds.{letter_of}
 use Rattle.entries.specs.Entries.{Names, Holds, Says}

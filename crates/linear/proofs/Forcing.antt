@@ -1,12 +1,12 @@
 -- For a linear rule, to force a literal is to be unbroken and have it free and of a weight above the slack.
-use Rattle.std.proofs.Common.{◌≡◌, ℕ, ◌+◌, ◌<◌, ◌≤◌, Bool, true, false, not, ◌&&◌, List, pos, Some, None, Decides, Option, sym, ap, ◌∙◌, inl, inr, ⊎_elim, arith}
+use Rattle.std.proofs.Common.{◌≡◌, ℕ, ◌+◌, ◌<◌, ◌≤◌, true, false, not, ◌&&◌, List, pos, Some, None, Decides, Option, sym, ap, ◌∙◌, ⊎_elim, arith}
 use lib.Signed.{lt_z}
 use Rattle.std.proofs.lemmas.Bool.{and_parts, and_from, not-true, not_from_false, both_ways, ltb-true, ltb-false, lt-ltb}
 use Rattle.literals.specs.declared.literal.Literal.{Literal}
 use Rattle.literals.specs.declared.setting.Setting.{Setting}
 use Rattle.literals.specs.Literals.{opposite}
 use Rattle.literals.specs.Settings.{free, plus}
-use Rattle.rules.specs.Rules.{Forces, Before, First, FirstForced}
+use Rattle.rules.specs.Rules.{Forces, FirstForced}
 use Rattle.linear.specs.declared.term.Term.{Term}
 use Rattle.lists.specs.Lists.{distinct}
 use Rattle.linear.specs.Terms.{literals, counted, weight_of}

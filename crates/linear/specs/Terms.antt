@@ -4,7 +4,7 @@
 --   bad_weights   a weight is 0, above 65,535, or above the one before it
 --   counted       the weights of the terms whose literal is not false
 --   weight_of     the weight of a literal
-use Rattle.std.specs.Prelude.{ℕ, Bool, true, false, cond, ◌||◌, List, [], ◌∷◌, map, sum_by, ◌==◌, nat_lt}
+use Rattle.std.specs.Prelude.{ℕ, Bool, false, cond, ◌||◌, List, [], ◌∷◌, map, sum_by, ◌==◌, nat_lt}
 use Rattle.literals.specs.declared.literal.Literal.{Literal}
 use Rattle.literals.specs.declared.setting.Setting.{Setting}
 use Rattle.literals.specs.Literals.{opposite, same}

@@ -1,6 +1,6 @@
 -- A line is five fields one behind the other, and a text has one line at a place.
-use Rattle.std.proofs.Common.{◌≡◌, ℕ, ◌+◌, ◌<◌, ◌≤◌, List, length, sym, refl, ap, ◌∙◌, subst, arith}
-use Rattle.cursor.specs.Fields.{Plain, FieldAt, NoFieldAt, past}
+use Rattle.std.proofs.Common.{◌≡◌, ℕ, ◌≤◌, List, length, sym, ap, ◌∙◌, subst, arith}
+use Rattle.cursor.specs.Fields.{FieldAt, NoFieldAt, past}
 use Rattle.cursor.proofs.Fields.{same_field, space, break, field_within}
 use Rattle.lines.specs.Lines.{Five, LineAt, NoLineAt, place2, place3, place4, place5, after, Places, places}
 

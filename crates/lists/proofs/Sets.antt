@@ -1,13 +1,11 @@
 -- The set of a list of literals over distinct switches: what stands in it, what is free, and how many switches it leaves free.
-use Rattle.std.proofs.Common.{◌≡◌, ℕ, zero, suc, ◌+◌, ◌<◌, ◌≤◌, Bool, true, false, not, ◌&&◌, ◌||◌, eqb, ◌⊎◌, List, [], ◌∷◌, ◌++◌, length, take, sym, refl, ap, ◌∙◌, subst, inl, inr, ⊎_elim, arith}
+use Rattle.std.proofs.Common.{◌≡◌, ℕ, zero, suc, ◌+◌, ◌<◌, Bool, true, false, not, ◌&&◌, ◌||◌, eqb, List, [], ◌∷◌, ◌++◌, length, take, sym, refl, ap, ◌∙◌, ⊎_elim, arith}
 use Rattle.std.specs.List.{AllByRecursion as All}
-use Rattle.std.proofs.lemmas.Bool.{and_parts, and_from, and_left, both_ways, cases_Bool, eq-eqb, ne_eqb, eqb-true, eqb-false, not-true, or_cases, or_from, or_left, or_parts, or_right}
+use Rattle.std.proofs.lemmas.Bool.{and_parts, and_from, and_left, cases_Bool, eqb-true, eqb-false, not-true, or_from, or_parts}
 use Rattle.std.proofs.lemmas.Bool.Decides.{nat_tests}
 use Rattle.literals.specs.declared.literal.Literal.{Literal}
 use Rattle.literals.specs.declared.setting.Setting.{Setting}
-use Rattle.literals.specs.Literals.{opposite, same}
-use Rattle.literals.specs.Settings.{stands, free, plus, nothing, ◌⊆◌, plus_all, set_of, free_count}
-use Rattle.literals.proofs.Standing.{stands-plus, plus-has, plus_keeps, nothing-stands}
+use Rattle.literals.specs.Settings.{free, plus, nothing, plus_all, set_of, free_count}
 use Rattle.literals.proofs.Freedom.{plus-free, plus_taken, free_count-plus, free_count-nothing, nothing-free}
 use Rattle.lists.specs.Lists.{mentioned, distinct}
 use Rattle.lists.proofs.Distinct.{mentioned-append}

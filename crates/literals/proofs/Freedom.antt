@@ -1,5 +1,5 @@
 -- Free switches, one by one and counted.
-use Rattle.std.proofs.Common.{◌≡◌, ℕ, ◌+◌, ◌-◌, ◌/◌, ◌%◌, ◌^◌, ◌<◌, Bool, true, false, cond, not, ◌&&◌, ◌||◌, eqb, ◌≢◌, sym, refl, ap, ◌∙◌, ap₂, arith}
+use Rattle.std.proofs.Common.{◌≡◌, ℕ, ◌+◌, ◌-◌, ◌/◌, ◌%◌, ◌^◌, ◌<◌, Bool, true, false, cond, not, ◌&&◌, ◌||◌, eqb, sym, refl, ap, ◌∙◌, ap₂, arith}
 use lib.Bits.{bit_or, or_lt}
 use lib.Count.{ones}
 use Rattle.std.proofs.lemmas.Bool.{and_from, and_left, ne_eqb}
@@ -9,7 +9,7 @@ use Rattle.bits.proofs.Bits.{bit-bit_or, bit_not, bit_with}
 use Rattle.bits.proofs.Counts.{kept_same, kept_less, kept_later, ones-kept}
 use Rattle.literals.specs.declared.literal.Literal.{Literal}
 use Rattle.literals.specs.declared.setting.Setting.{Setting}
-use Rattle.literals.specs.Literals.{opposite, same}
+use Rattle.literals.specs.Literals.{opposite}
 use Rattle.literals.specs.Settings.{stands, free, plus, nothing, free_switch, free_count}
 use Rattle.literals.proofs.Standing.{stands-plus, plus-has, nothing-stands}
 

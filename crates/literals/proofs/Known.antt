@@ -1,5 +1,5 @@
 -- A literal is known by its switch and side, and by its number.
-use Rattle.std.proofs.Common.{◌≡◌, ℕ, zero, suc, ◌≤◌, Bool, true, false, cond, not, ◌&&◌, eqb, ℤ, pos, neg_ℤ, Decides, sym, refl, ap, ◌∙◌, subst, ap₂, arith}
+use Rattle.std.proofs.Common.{◌≡◌, ℕ, zero, suc, ◌≤◌, Bool, true, false, cond, not, ◌&&◌, eqb, ℤ, pos, neg_ℤ, Decides, sym, refl, ap, subst, ap₂, arith}
 use mathlib.Core.Bool.{beq}
 use native.Mathlib.Bridge.{le_prop}
 use Rattle.std.proofs.lemmas.Int.{ints}

@@ -1,7 +1,7 @@
 -- What a call's refusal says of the checks behind it.
 use Rattle.std.proofs.Common.{◌≡◌, ℕ, Bool, true, false, cond, List, [], ◌∷◌, ◌++◌, Some, None, Option, sym, refl, ap, ◌∙◌, arith}
 use Rattle.literals.specs.declared.refusal.Refusal.{Refusal}
-use Rattle.literals.specs.Refusals.{Check, check, first_failed}
+use Rattle.literals.specs.Refusals.{Check, first_failed}
 
 none_some : {B : Type 0} (e : Refusal) → None ≡ Some e → B
 none_some e p = let z : ◌≡◌ {A = ℕ} 0 1 = cc in absurd (omega arith)

@@ -1,13 +1,12 @@
 -- The rules of a plain shelf, over the limit and under it.
-use Rattle.std.proofs.Common.{◌≡◌, ℕ, ◌+◌, ◌-◌, ◌<◌, ◌≤◌, Bool, false, List, [], ◌∷◌, map, length, get_or, sym, refl, ap, ◌∙◌, subst, ⊎_elim, arith}
+use Rattle.std.proofs.Common.{◌≡◌, ℕ, ◌+◌, ◌-◌, ◌<◌, ◌≤◌, Bool, false, List, [], ◌∷◌, map, length, get_or, sym, refl, ap, ◌∙◌, subst, arith}
 use Rattle.std.proofs.lemmas.List.{length-map}
-use Rattle.std.proofs.lemmas.Bool.{cases_lt}
 use Rattle.literals.specs.declared.setting.Setting.{Setting}
 use Rattle.rules.specs.declared.Verdict.{Verdict}
 use Rattle.rules.specs.declared.Verdict.TheVariants.{Broken}
 use Rattle.rules.specs.Rules.{Grows, Ignores}
 use Rattle.rules.specs.Scans.{Numbered, Scans, first, later}
-use Rattle.rules.proofs.Numbers.{at_numbered, numbered_map, map_numbered}
+use Rattle.rules.proofs.Numbers.{at_numbered, numbered_map}
 use Rattle.shelf.specs.Meanings.{Meaning, Lawful, Every, OfRule, Answers, shut}
 use Rattle.shelf.proofs.Caps.{over, under, by_cap, capped_lawful, rule_there, shut_answers}
 use Rattle.shelf.proofs.Lists.{answers_map, every_map}

@@ -1,5 +1,5 @@
 -- What is told of a standing switch, and of a free one.
-use Rattle.std.proofs.Common.{◌≡◌, ℕ, ◌+◌, ◌-◌, ◌<◌, ◌≤◌, Bool, true, false, cond, not, ◌&&◌, ◌||◌, ltb, ◌⊎◌, List, [], ◌∷◌, length, get_or, Some, None, Decides, sym, refl, ap, ◌∙◌, subst, inl, inr, ⊎_elim, arith}
+use Rattle.std.proofs.Common.{◌≡◌, ℕ, ◌+◌, ◌-◌, ◌<◌, ◌≤◌, Bool, true, false, cond, not, ◌&&◌, ◌||◌, ltb, ◌⊎◌, List, length, get_or, Some, None, Decides, sym, refl, ap, ◌∙◌, subst, inl, inr, ⊎_elim, arith}
 use Rattle.std.proofs.lemmas.Bool.{le-ltb}
 use Rattle.bits.specs.Words.{bit}
 use Rattle.literals.specs.declared.literal.Literal.{Literal}
@@ -22,7 +22,7 @@ use Rattle.runs.proofs.Because.{because}
 use Rattle.runs.proofs.Keeping.{run_keeps}
 use Rattle.runs.proofs.Trails.{once}
 use Rattle.runs.proofs.Verdicts.{true_false}
-use Rattle.reasons.specs.Whys.{Chosen, Collected}
+use Rattle.reasons.specs.Whys.{Collected}
 use Rattle.reasons.proofs.Marking.{place_mentioned}
 
 -- ---- the trail of a session

@@ -1,29 +1,22 @@
 -- Why a literal stands: going down the trail marks exactly what is reached.
-use Rattle.std.proofs.Common.{◌≡◌, ℕ, zero, suc, ◌+◌, ◌-◌, ◌<◌, ◌≤◌, Bool, true, false, cond, not, ◌||◌, eqb, ◌⊎◌, List, [], ◌∷◌, ◌++◌, length, get_or, take, Some, None, Ok, Err, Decides, Result, sym, refl, ap, ◌∙◌, subst, inl, inr, ⊎_elim, arith}
-use Rattle.std.proofs.lemmas.List.{take_more, take_all}
-use Rattle.std.proofs.lemmas.Bool.{cases_lt, cases_eq, and_parts, not-true, or_left, or_right, eq-eqb, eqb-true}
-use Rattle.bits.specs.Words.{bit}
+use Rattle.std.proofs.Common.{◌≡◌, ℕ, suc, ◌+◌, ◌<◌, Bool, true, false, not, ◌⊎◌, List, [], ◌∷◌, ◌++◌, length, get_or, take, Some, Decides, sym, refl, ap, ◌∙◌, subst, inl, inr, ⊎_elim, arith}
+use Rattle.std.proofs.lemmas.List.{take_more}
+use Rattle.std.proofs.lemmas.Bool.{and_parts, not-true, or_left, or_right, eq-eqb}
 use Rattle.literals.specs.declared.literal.Literal.{Literal}
 use Rattle.literals.specs.declared.refusal.Refusal.{Refusal}
-use Rattle.literals.specs.declared.refusal.Refusal.TheVariants.{OutOfRange, SwitchFree}
 use Rattle.literals.specs.declared.setting.Setting.{Setting}
-use Rattle.literals.specs.Literals.{opposite, no_switch}
-use Rattle.literals.specs.Refusals.{first_failed, refusal_of}
-use Rattle.literals.specs.Settings.{stands, free, free_switch, plus, nothing}
-use Rattle.literals.proofs.Freedom.{free_is}
-use Rattle.literals.proofs.Known.{literal_same}
-use Rattle.literals.proofs.Standing.{nothing-stands, plus-has, plus_keeps, plus_cases, free_parts}
+use Rattle.literals.specs.Refusals.{first_failed}
+use Rattle.literals.specs.Settings.{stands, plus}
+use Rattle.literals.proofs.Standing.{plus-has, plus_keeps, plus_cases}
 use Rattle.lists.specs.Lists.{distinct, mentioned}
-use Rattle.lists.proofs.Sets.{set_free, free_new, new_free}
 use Rattle.rules.specs.Scans.{Numbered, first, later}
-use Rattle.rules.proofs.Numbers.{numbered_low, numbered_high, numbered_one, numbered_left, append_numbered, numbered_take, numbered_right, at_numbered}
+use Rattle.rules.proofs.Numbers.{numbered_low, numbered_high, numbered_one, numbered_left, append_numbered, numbered_right}
 use Rattle.shelf.specs.Meanings.{Meaning, OfRule, mention_checks}
 use Rattle.shelf.proofs.Caps.{mention_there}
 use Rattle.runs.specs.declared.step.Step.{Step}
-use Rattle.runs.specs.Views.{literals_on, standing}
-use Rattle.runs.specs.Reasons.{Leads, Reaches, itself, on, Reason, Meets, Still, Because, HoldsWord, Explains, why_checks}
+use Rattle.runs.specs.Views.{literals_on}
 use Rattle.runs.proofs.Verdicts.{true_false}
-use Rattle.reasons.specs.Whys.{Mentions, Named, Marks, Marked, AllMarked, Chosen, Collected}
+use Rattle.reasons.specs.Whys.{Mentions, Named, Marks}
 
 -- ---- each switch has one place
 

@@ -1,5 +1,5 @@
 -- Going down the trail from a place marks exactly the places that it reaches.
-use Rattle.std.proofs.Common.{◌≡◌, ℕ, zero, suc, ◌+◌, ◌-◌, ◌<◌, ◌≤◌, Bool, true, false, ◌⊎◌, List, [], ◌∷◌, length, get_or, take, sym, refl, ap, ◌∙◌, subst, inl, inr, ⊎_elim, arith}
+use Rattle.std.proofs.Common.{◌≡◌, ℕ, zero, suc, ◌+◌, ◌<◌, ◌≤◌, true, false, ◌⊎◌, List, [], ◌∷◌, take, sym, refl, ap, ◌∙◌, subst, inl, inr, ⊎_elim, arith}
 use Rattle.std.proofs.lemmas.Bool.{cases_eq}
 use Rattle.literals.specs.declared.literal.Literal.{Literal}
 use Rattle.literals.specs.declared.setting.Setting.{Setting}
@@ -7,8 +7,8 @@ use Rattle.literals.specs.Settings.{stands, plus, nothing}
 use Rattle.literals.proofs.Standing.{nothing-stands, plus-has, plus_keeps, plus_cases}
 use Rattle.lists.specs.Lists.{distinct}
 use Rattle.rules.specs.Scans.{Numbered, first, later}
-use Rattle.rules.proofs.Numbers.{numbered_low, numbered_high, numbered_one, numbered_take}
-use Rattle.shelf.specs.Meanings.{Meaning, OfRule}
+use Rattle.rules.proofs.Numbers.{numbered_low, numbered_one, numbered_take}
+use Rattle.shelf.specs.Meanings.{Meaning}
 use Rattle.runs.specs.declared.step.Step.{Step}
 use Rattle.runs.specs.Views.{literals_on}
 use Rattle.runs.specs.Reasons.{Leads, Reaches, itself, on}

@@ -4,7 +4,7 @@
 --   Marks       what is marked, when a rule has marked what it mentions
 --   Marked      what is marked, when the places down to m have been looked at
 --   Collected   the chosen literals reached so far
-use Rattle.std.specs.Prelude.{◌≡◌, ℕ, ◌+◌, ◌<◌, Bool, true, false, ◌⊎◌, List, take, Some, None, Decides, Option}
+use Rattle.std.specs.Prelude.{◌≡◌, ℕ, ◌+◌, ◌<◌, true, false, ◌⊎◌, List, Some, None, Decides, Option}
 use Rattle.literals.specs.declared.literal.Literal.{Literal}
 use Rattle.literals.specs.declared.setting.Setting.{Setting}
 use Rattle.literals.specs.Settings.{stands}

@@ -1,5 +1,5 @@
 -- A literal of the trail stands in every unbroken set that forces nothing and holds the chosen literals that its place reaches.
-use Rattle.std.proofs.Common.{◌≡◌, ℕ, zero, suc, ◌+◌, ◌<◌, ◌≤◌, Bool, true, false, cond, ◌⊎◌, List, [], ◌∷◌, ◌++◌, length, sym, refl, ap, ◌∙◌, subst, inl, inr, ⊎_elim, arith}
+use Rattle.std.proofs.Common.{◌≡◌, ℕ, suc, ◌+◌, ◌<◌, Bool, true, false, cond, List, [], ◌∷◌, ◌++◌, length, sym, refl, ap, ◌∙◌, subst, ⊎_elim, arith}
 use Rattle.literals.specs.declared.literal.Literal.{Literal}
 use Rattle.literals.specs.declared.setting.Setting.{Setting}
 use Rattle.literals.specs.Literals.{opposite}
@@ -8,9 +8,8 @@ use Rattle.literals.proofs.Standing.{nothing-stands, plus-has, plus_keeps, plus_
 use Rattle.lists.proofs.Members.{plus_all_keeps}
 use Rattle.rules.specs.Rules.{Forces}
 use Rattle.rules.specs.Scans.{Numbered, first, later}
-use Rattle.rules.proofs.Numbers.{numbered_left, numbered_right, append_numbered, numbered_high, numbered_low, numbered_one}
-use Rattle.std.proofs.lemmas.List.{length_push}
-use Rattle.shelf.specs.Meanings.{Meaning, Lawful, Every, OfRule}
+use Rattle.rules.proofs.Numbers.{numbered_left, append_numbered, numbered_high, numbered_low, numbered_one}
+use Rattle.shelf.specs.Meanings.{Meaning, Lawful, Every}
 use Rattle.runs.specs.declared.step.Step.{Step}
 use Rattle.runs.specs.Views.{literals_on, standing}
 use Rattle.runs.specs.Reasons.{Meets, Still, Leads, Reaches, itself, on, Because}

@@ -1,10 +1,9 @@
 -- What every list of calls keeps of a session.
-use Rattle.std.proofs.Common.{◌≡◌, ℕ, ◌+◌, ◌<◌, ◌≤◌, Bool, true, false, cond, not, ◌&&◌, eqb, ltb, leb, ◌⊎◌, List, [], ◌∷◌, ◌++◌, length, take, ℤ, Some, None, Option, sym, refl, ap, ◌∙◌, subst, ap₂, inl, inr, ⊎_elim, arith}
+use Rattle.std.proofs.Common.{◌≡◌, ℕ, ◌+◌, ◌<◌, Bool, true, false, cond, not, eqb, ◌⊎◌, List, [], ◌∷◌, ◌++◌, length, take, ℤ, None, sym, refl, ap, ◌∙◌, subst, ap₂, inl, inr, ⊎_elim, arith}
 use Rattle.std.proofs.lemmas.List.{append-nil, map_push, length_push, length-take-le, take-map}
-use Rattle.std.proofs.lemmas.Bool.{leb-false, and_from, or_left}
+use Rattle.std.proofs.lemmas.Bool.{leb-false, and_from}
 use Rattle.std.proofs.lemmas.Bool.Decides.{nat_tests}
 use Rattle.literals.specs.declared.literal.Literal.{Literal}
-use Rattle.literals.specs.declared.refusal.Refusal.{Refusal}
 use Rattle.literals.specs.Literals.{number, opposite}
 use Rattle.literals.specs.Refusals.{first_failed}
 use Rattle.literals.specs.Settings.{stands, stands_number, free}
@@ -21,8 +20,8 @@ use Rattle.runs.specs.declared.calls.State.TheVariants.{Unsettled, Settled, Clas
 use Rattle.runs.specs.declared.calls.Call.{Call}
 use Rattle.runs.specs.declared.calls.Call.TheVariants.{Settle, Choose, Back, BackFromClash, Close}
 use Rattle.runs.specs.declared.calls.Answer.{Answer}
-use Rattle.runs.specs.declared.calls.Answer.TheVariants.{Done, Grown, Clash, Refused}
-use Rattle.runs.specs.Views.{View, opened, standing, step, up_to}
+use Rattle.runs.specs.declared.calls.Answer.TheVariants.{Done}
+use Rattle.runs.specs.Views.{View, opened, standing, step}
 use Rattle.runs.specs.Calls.{checks, is_shut, is_clashed, is_unsettled, state_by, Said, SettledBy, Chose, WentBack, Closed, Did, Does, refused, done}
 use Rattle.runs.specs.Runs.{Event, event, Run, none, then, chosen_after, chosen_from, chosen_by}
 use Rattle.runs.specs.Laws.{chosen_in}

@@ -10,7 +10,7 @@ use Rattle.rules.specs.Scans.{Numbered, first}
 use Rattle.rules.proofs.Numbers.{numbered_one, numbered_right, numbered_take, at_numbered}
 use Rattle.shelf.specs.Meanings.{Meaning, Answers}
 use Rattle.runs.specs.declared.step.Step.{Step}
-use Rattle.runs.specs.Views.{standing, step, up_to}
+use Rattle.runs.specs.Views.{standing, up_to}
 use Rattle.runs.specs.Calls.{Settles, quiet, broken, locks}
 use Rattle.runs.proofs.Trails.{Trail, empty, chose, locked}
 

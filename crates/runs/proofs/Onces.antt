@@ -1,5 +1,5 @@
 -- For every view and call there is exactly one answer and one outcome.
-use Rattle.std.proofs.Common.{◌≡◌, ℕ, zero, suc, ◌+◌, ◌-◌, ◌≤◌, Bool, true, false, List, [], ◌∷◌, ◌++◌, length, ℤ, pos, negsuc, neg_ℤ, Some, None, Option, sym, refl, ap, ◌∙◌, subst, ap₂, arith}
+use Rattle.std.proofs.Common.{◌≡◌, ℕ, zero, suc, ◌+◌, ◌≤◌, true, false, List, [], ◌∷◌, ◌++◌, length, ℤ, pos, negsuc, neg_ℤ, Some, None, Option, sym, refl, ap, ◌∙◌, subst, arith}
 use Rattle.std.proofs.lemmas.List.{length_push}
 use Rattle.std.proofs.lemmas.Bool.{or_parts, ltb-false}
 use Rattle.literals.specs.declared.literal.Literal.{Literal}
@@ -7,23 +7,23 @@ use Rattle.literals.specs.declared.refusal.Refusal.{Refusal}
 use Rattle.literals.specs.declared.setting.Setting.{Setting}
 use Rattle.literals.specs.Literals.{number, no_literal}
 use Rattle.literals.specs.Refusals.{first_failed}
-use Rattle.literals.specs.Settings.{free, free_count}
+use Rattle.literals.specs.Settings.{free_count}
 use Rattle.literals.proofs.Freedom.{free_count-plus}
 use Rattle.literals.proofs.Known.{number_same}
 use Rattle.literals.proofs.Refused.{passed}
 use Rattle.rules.specs.declared.Verdict.{Verdict}
 use Rattle.rules.specs.declared.Verdict.TheVariants.{Quiet, Broken, Forced}
 use Rattle.rules.proofs.Numbers.{numbered_one}
-use Rattle.shelf.specs.Meanings.{Meaning, Answers, OfRule}
+use Rattle.shelf.specs.Meanings.{Meaning, Answers}
 use Rattle.runs.specs.declared.step.Step.{Step}
 use Rattle.runs.specs.declared.calls.State.{State}
-use Rattle.runs.specs.declared.calls.State.TheVariants.{Unsettled, Settled, Clashed, Shut}
+use Rattle.runs.specs.declared.calls.State.TheVariants.{Unsettled}
 use Rattle.runs.specs.declared.calls.Call.{Call}
 use Rattle.runs.specs.declared.calls.Call.TheVariants.{Settle, Choose, Back, BackFromClash, Close}
 use Rattle.runs.specs.declared.calls.Answer.{Answer}
 use Rattle.runs.specs.declared.calls.Answer.TheVariants.{Done, Grown, Clash, Refused}
-use Rattle.runs.specs.Views.{View, standing, step, up_to}
-use Rattle.runs.specs.Calls.{checks, Settles, quiet, broken, locks, state_by, Said, SettledBy, Chose, WentBack, Closed, Did, Does, refused, done}
+use Rattle.runs.specs.Views.{View, standing, step}
+use Rattle.runs.specs.Calls.{checks, Settles, quiet, broken, locks, state_by, Said, SettledBy, Chose, Did, Does, refused, done}
 use Rattle.runs.specs.Laws.{One}
 use Rattle.runs.proofs.Verdicts.{answers_one, answers_some}
 use Rattle.runs.proofs.Trails.{standing-push}

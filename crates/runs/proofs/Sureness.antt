@@ -1,25 +1,23 @@
 -- Settled is the least stable set over the chosen literals, clashed is hopeless, and two sessions agree.
-use Rattle.std.proofs.Common.{◌≡◌, ℕ, ◌+◌, Bool, true, false, not, List, [], ◌∷◌, ◌++◌, length, ℤ, sym, refl, ap, ◌∙◌, subst, arith}
+use Rattle.std.proofs.Common.{◌≡◌, ℕ, Bool, true, false, not, List, length, ℤ, sym, refl, ap, ◌∙◌, subst, arith}
 use Rattle.literals.specs.declared.literal.Literal.{Literal}
 use Rattle.literals.specs.declared.setting.Setting.{Setting}
 use Rattle.literals.specs.Literals.{number, opposite}
-use Rattle.literals.specs.Settings.{stands, free, plus, nothing, set_of, free_count, ◌⊆◌}
-use Rattle.literals.proofs.Standing.{nothing-stands, free_parts, plus_keeps, plus_within, plus-has}
-use Rattle.lists.specs.Lists.{distinct, mentioned, ◌∈◌}
+use Rattle.literals.specs.Settings.{stands, free, plus, set_of, free_count, ◌⊆◌}
+use Rattle.literals.proofs.Standing.{free_parts}
+use Rattle.lists.specs.Lists.{distinct}
 use Rattle.lists.proofs.Members.{in_set, set_in, sets_same, same_length}
-use Rattle.lists.proofs.Sets.{plus_all-push, distinct_push, free_new}
+use Rattle.lists.proofs.Sets.{distinct_push, free_new}
 use Rattle.std.proofs.lemmas.Bool.{and_from}
-use Rattle.rules.specs.declared.Verdict.TheVariants.{Quiet, Broken}
-use Rattle.rules.specs.Scans.{Numbered}
-use Rattle.shelf.specs.Meanings.{Meaning, Lawful, Every, Answers, Match}
+use Rattle.shelf.specs.Meanings.{Meaning, Lawful, Every, Match}
 use Rattle.runs.specs.declared.step.Step.{Step}
 use Rattle.runs.specs.declared.calls.State.TheVariants.{Settled, Clashed}
-use Rattle.runs.specs.Views.{View, opened, literals_on, standing}
-use Rattle.runs.specs.Runs.{Event, Run, chosen_by}
-use Rattle.runs.specs.Reasons.{Meets, Still}
-use Rattle.runs.specs.Laws.{Holds, Stable, Least, Full, Hopeless, Same, Alike, Agree, EverySure, EveryTwoAgree}
+use Rattle.runs.specs.Views.{View, literals_on, standing}
+use Rattle.runs.specs.Runs.{chosen_by}
+use Rattle.runs.specs.Reasons.{Meets}
+use Rattle.runs.specs.Laws.{Holds, Stable, Least, Full, Hopeless, Same, Alike, EverySure, EveryTwoAgree}
 use Rattle.runs.proofs.Verdicts.{true_false}
-use Rattle.runs.proofs.Trails.{Trail, empty, chose, locked, numbers, standing-push, least, holds_chosen, count}
+use Rattle.runs.proofs.Trails.{Trail, empty, chose, locked, numbers, least, holds_chosen, count}
 use Rattle.runs.proofs.Keeping.{Kept, run_keeps, chosen_told}
 
 -- ---- one session

@@ -1,5 +1,5 @@
 -- The trails that choosing and settling make, with the literals chosen; and at the heart: every stable set contains them.
-use Rattle.std.proofs.Common.{◌≡◌, ℕ, ◌+◌, ◌<◌, ◌≤◌, Bool, true, false, not, ◌⊎◌, List, [], ◌∷◌, ◌++◌, map, length, ℤ, sym, refl, ap, ◌∙◌, subst, inl, inr, ⊎_elim, arith}
+use Rattle.std.proofs.Common.{◌≡◌, ℕ, ◌+◌, Bool, true, false, not, ◌⊎◌, List, [], ◌∷◌, ◌++◌, map, length, ℤ, sym, refl, ap, ◌∙◌, subst, inl, inr, ⊎_elim}
 use Rattle.std.proofs.lemmas.List.{map_push, length-map}
 use Rattle.std.proofs.lemmas.Bool.{and_from}
 use Rattle.literals.specs.declared.literal.Literal.{Literal}
@@ -12,7 +12,6 @@ use Rattle.lists.specs.Lists.{distinct, ◌∈◌}
 use Rattle.lists.proofs.Reading.{in_push, push_in}
 use Rattle.lists.proofs.Sets.{plus_all-push, distinct_push, free_new, count_free}
 use Rattle.rules.specs.declared.Verdict.TheVariants.{Quiet, Forced}
-use Rattle.rules.specs.Rules.{Forces}
 use Rattle.rules.specs.Scans.{Numbered}
 use Rattle.shelf.specs.Meanings.{Meaning, Lawful, Every, Answers}
 use Rattle.runs.specs.declared.step.Step.{Step}

@@ -13,13 +13,12 @@
 --   Agree          what holds of two lists of calls with the same chosen literals
 --   One            a call has exactly one answer and one outcome
 --   Laws           all of it, for every list of calls from a new session on
-use Rattle.std.specs.Prelude.{◌≡◌, ℕ, ◌<◌, Bool, true, false, cond, not, List, [], ◌∷◌, length, ℤ, ◌==◌, ◌≢◌}
+use Rattle.std.specs.Prelude.{◌≡◌, ℕ, ◌<◌, true, false, cond, not, List, [], ◌∷◌, length, ℤ, ◌==◌, ◌≢◌}
 use Rattle.literals.specs.declared.literal.Literal.{Literal}
 use Rattle.literals.specs.declared.setting.Setting.{Setting}
 use Rattle.literals.specs.Literals.{number, opposite}
 use Rattle.literals.specs.Settings.{stands, free_count, ◌⊆◌}
 use Rattle.lists.specs.Lists.{◌∈◌}
-use Rattle.rules.specs.Rules.{Forces}
 use Rattle.rules.specs.Scans.{Numbered}
 use Rattle.shelf.specs.Meanings.{Meaning, Every, Lawful, Match}
 use Rattle.runs.specs.declared.step.Step.{Step}

@@ -6,7 +6,7 @@
 --   Still      no rule forces a literal from a set
 --   Because    the chosen literals that a place reaches suffice for its literal
 --   Explains   what is told of a standing switch
-use Rattle.std.specs.Prelude.{◌≡◌, ℕ, ◌-◌, ◌<◌, ◌≤◌, Bool, true, false, List, [], ◌∷◌, Decides}
+use Rattle.std.specs.Prelude.{◌≡◌, ℕ, ◌-◌, ◌<◌, ◌≤◌, true, false, List, [], ◌∷◌, Decides}
 use Rattle.bits.specs.Words.{bit}
 use Rattle.literals.specs.declared.literal.Literal.{Literal}
 use Rattle.literals.specs.declared.refusal.Refusal.TheVariants.{OutOfRange, SwitchFree}

@@ -1,27 +1,24 @@
 -- The receipt in hand is that of the clash that stands, after every request.
-use Rattle.std.proofs.Common.{◌≡◌, ℕ, Bool, true, false, List, [], ◌∷◌, ◌++◌, ℤ, Some, None, Option, sym, refl, ap, ◌∙◌, subst, arith}
+use Rattle.std.proofs.Common.{◌≡◌, ℕ, false, List, ℤ, Some, None, Option, sym, ap, ◌∙◌, subst, arith}
 use Rattle.literals.specs.declared.literal.Literal.{Literal}
 use Rattle.literals.specs.declared.refusal.Refusal.{Refusal}
-use Rattle.literals.specs.Refusals.{first_failed}
 use Rattle.literals.proofs.Refused.{passed}
 use Rattle.rules.specs.declared.Verdict.{Verdict}
 use Rattle.rules.specs.declared.Verdict.TheVariants.{Quiet, Broken, Forced}
 use Rattle.shelf.specs.Meanings.{Meaning}
-use Rattle.runs.specs.declared.calls.State.{State}
-use Rattle.runs.specs.declared.calls.State.TheVariants.{Unsettled, Settled, Clashed, Shut}
+use Rattle.runs.specs.declared.calls.State.TheVariants.{Clashed}
 use Rattle.runs.specs.declared.calls.Call.{Call}
 use Rattle.runs.specs.declared.calls.Call.TheVariants as call
 use Rattle.runs.specs.declared.calls.Answer.{Answer}
 use Rattle.runs.specs.declared.calls.Answer.TheVariants.{Done, Grown, Clash, Refused}
 use Rattle.runs.specs.Views.{View}
-use Rattle.runs.specs.Calls.{is_clashed, checks, Said, SettledBy, state_by, Does, refused, done}
+use Rattle.runs.specs.Calls.{is_clashed, checks, Said, state_by, Does, refused, done}
 use Rattle.runs.proofs.Verdicts.{true_false}
 use Rattle.session.specs.declared.receipt.Receipt.{Receipt}
 use Rattle.session.specs.declared.session.Session.{Session}
 use Rattle.session.specs.Sessions.{seen, Sound}
 use Rattle.script.specs.declared.player.Player.{Player}
 use Rattle.script.specs.declared.request.Request.{Request}
-use Rattle.script.specs.declared.request.Request.TheVariants as request
 use Rattle.script.specs.Players.{Hand, PlayerSound}
 use Rattle.script.specs.Plays.{call_of, Wants, Out, NoneOut, Plays, called}
 

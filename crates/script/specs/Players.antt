@@ -1,7 +1,7 @@
 -- When a player is sound.
 --   Hand          a receipt is held exactly where a clash stands, and it is of that rule and level
 --   PlayerSound   the session is sound, and the hand is right
-use Rattle.std.specs.Prelude.{◌≡◌, List, Some, None, Option}
+use Rattle.std.specs.Prelude.{List, Some, None, Option}
 use Rattle.literals.specs.declared.literal.Literal.{Literal}
 use Rattle.shelf.specs.Meanings.{Meaning}
 use Rattle.runs.specs.Views.{View}

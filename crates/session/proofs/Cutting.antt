@@ -1,11 +1,9 @@
 -- What dropping the steps above a level leans on.
-use Rattle.std.proofs.Common.{◌≡◌, ℕ, ◌+◌, ◌-◌, ◌<◌, ◌≤◌, true, List, [], ◌∷◌, ◌++◌, length, get_or, take, sym, refl, ap, ◌∙◌, subst, arith}
+use Rattle.std.proofs.Common.{◌≡◌, ℕ, ◌+◌, ◌-◌, ◌<◌, ◌≤◌, true, List, [], ◌∷◌, ◌++◌, length, get_or, take, sym, ap, ◌∙◌, subst, arith}
 use Rattle.std.proofs.lemmas.List.{length-map, take_more, take-map, get_or-map}
-use Rattle.literals.specs.declared.literal.Literal.{Literal}
 use Rattle.literals.specs.declared.setting.Setting.{Setting}
 use Rattle.literals.specs.Settings.{minus, set_of}
 use Rattle.lists.specs.Lists.{distinct}
-use Rattle.rules.specs.Scans.{Numbered}
 use Rattle.rules.proofs.Numbers.{numbered_at, numbered_low}
 use Rattle.told.proofs.Telling.{back_one}
 use Rattle.runs.specs.declared.step.Step.{Step}

@@ -1,5 +1,5 @@
 -- What the turns of settling keep.
-use Rattle.std.proofs.Common.{◌≡◌, ℕ, ◌+◌, ◌-◌, ◌<◌, ◌≤◌, true, List, [], ◌∷◌, ◌++◌, length, ℤ, Some, None, Result, sym, refl, ap, ◌∙◌, subst, arith, MatchResult}
+use Rattle.std.proofs.Common.{◌≡◌, ℕ, ◌-◌, ◌<◌, true, List, [], ◌∷◌, ◌++◌, length, ℤ, Some, None, Result, sym, refl, ap, ◌∙◌, subst, arith, MatchResult}
 use Rattle.std.proofs.lemmas.List.{length_push}
 use Rattle.bounded.specs.Held.{held}
 use Rattle.literals.specs.declared.literal.Literal.{Literal}
@@ -7,7 +7,7 @@ use Rattle.literals.specs.declared.refusal.Refusal.{Refusal}
 use Rattle.literals.specs.declared.setting.Setting.{Setting}
 use Rattle.literals.specs.Literals.{number}
 use Rattle.literals.specs.Refusals.{first_failed, refusal_of}
-use Rattle.literals.specs.Settings.{free, free_count, plus, set_of}
+use Rattle.literals.specs.Settings.{free, plus, set_of}
 use Rattle.literals.proofs.Freedom.{free_count-plus}
 use Rattle.lists.specs.Lists.{distinct}
 use Rattle.rules.specs.declared.Verdict.{Verdict}
@@ -20,7 +20,7 @@ use Rattle.runs.specs.Views.{literals_on, standing, step}
 use Rattle.runs.specs.Calls.{Settles, quiet, broken, locks}
 use Rattle.runs.proofs.Trails.{literals-push, standing-push, once_more, count_once}
 use Rattle.session.specs.declared.log.Log.{Log}
-use Rattle.session.specs.Logs.{Live, Grew, Ran, ending}
+use Rattle.session.specs.Logs.{Live, Grew, Ran}
 
 -- ---- one literal more
 

@@ -1,5 +1,5 @@
 -- What a session tells of a switch and of a place.
-use Rattle.std.proofs.Common.{◌≡◌, ℕ, ◌+◌, ◌-◌, ◌<◌, ◌≤◌, Bool, true, false, cond, List, length, get_or, ℤ, pos, neg_ℤ, sym, refl, ap, ◌∙◌, subst, ap₂, arith}
+use Rattle.std.proofs.Common.{◌≡◌, ℕ, ◌+◌, ◌-◌, ◌≤◌, Bool, true, cond, List, length, get_or, pos, neg_ℤ, sym, ap, ◌∙◌, subst, ap₂, arith}
 use Rattle.literals.specs.declared.literal.Literal.{Literal}
 use Rattle.literals.specs.declared.setting.Setting.{Setting}
 use Rattle.literals.specs.Literals.{number, opposite}
@@ -9,7 +9,6 @@ use Rattle.literals.proofs.Standing.{number-stands}
 use Rattle.rules.specs.Scans.{Numbered}
 use Rattle.rules.proofs.Numbers.{at_numbered}
 use Rattle.runs.specs.declared.step.Step.{Step}
-use Rattle.session.specs.declared.position.Position.{Position}
 use Rattle.session.specs.declared.position.Position.TheVariants.{On, Off, Free}
 use Rattle.session.specs.Positions.{position}
 

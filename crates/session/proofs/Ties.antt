@@ -1,14 +1,13 @@
 -- What each call does to a sound session.
-use Rattle.std.proofs.Common.{◌≡◌, ℕ, ◌+◌, ◌-◌, ◌<◌, ◌≤◌, Bool, true, false, cond, List, [], ◌∷◌, ◌++◌, length, take, ℤ, IfErr, Some, None, Ok, Err, Result, sym, refl, ap, ◌∙◌, subst, arith, MatchResult}
+use Rattle.std.proofs.Common.{◌≡◌, ℕ, ◌+◌, ◌≤◌, true, cond, List, [], ◌∷◌, ◌++◌, length, take, ℤ, IfErr, Some, None, Ok, Err, Result, sym, refl, ap, ◌∙◌, subst, arith, MatchResult}
 use Rattle.std.proofs.lemmas.List.{take-map, length-map, length_push}
 use Rattle.bounded.specs.Held.{held}
 use Rattle.literals.specs.declared.literal.Literal.{Literal}
 use Rattle.literals.specs.declared.refusal.Refusal.{Refusal}
 use Rattle.literals.specs.declared.refusal.Refusal.TheVariants.{OutOfRange}
-use Rattle.literals.specs.declared.setting.Setting.{Setting}
 use Rattle.literals.specs.Literals.{number, no_literal}
 use Rattle.literals.specs.Refusals.{first_failed, refusal_of}
-use Rattle.literals.specs.Settings.{nothing, free, set_of, free_count}
+use Rattle.literals.specs.Settings.{nothing, free}
 use Rattle.literals.proofs.Refused.{failed_before}
 use Rattle.lists.specs.Lists.{distinct}
 use Rattle.lists.proofs.Sets.{count_free}
@@ -27,8 +26,8 @@ use Rattle.runs.specs.declared.calls.Answer.TheVariants as answer
 use Rattle.runs.specs.declared.calls.State.TheVariants.{Unsettled, Settled, Clashed, Shut}
 use Rattle.runs.specs.Views.{View, opened, literals_on, standing, step, up_to}
 use Rattle.runs.specs.Calls.{checks, input_checks, state_checks, Settles, quiet, broken, locks, Does, refused, done as does}
-use Rattle.runs.specs.Runs.{Event, event, Run, none, then, chosen_by}
-use Rattle.runs.proofs.Keeping.{Kept, run_keeps, Choosable, choosable}
+use Rattle.runs.specs.Runs.{event, Run, none, then, chosen_by}
+use Rattle.runs.proofs.Keeping.{Kept, run_keeps, choosable}
 use Rattle.runs.proofs.Levels.{front_up_to}
 use Rattle.runs.proofs.Onces.{settles_answer}
 use Rattle.runs.proofs.Sureness.{chosen_once}

@@ -1,5 +1,5 @@
 -- The answer that a call's result stands for.
-use Rattle.std.specs.Prelude.{◌≡◌, Ok, Err, Result}
+use Rattle.std.specs.Prelude.{Ok, Err, Result}
 use Rattle.literals.specs.declared.refusal.Refusal.{Refusal}
 use Rattle.runs.specs.declared.calls.Answer.{Answer}
 use Rattle.runs.specs.declared.calls.Answer.TheVariants as answer

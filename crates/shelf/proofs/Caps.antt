@@ -1,14 +1,13 @@
 -- Rules under the limit, the rule that fails shut, and which rule numbers there are.
-use Rattle.std.proofs.Common.{◌≡◌, ℕ, suc, ◌+◌, ◌-◌, ◌<◌, ◌≤◌, Bool, true, false, cond, ltb, List, [], ◌∷◌, length, get_or, Some, None, sym, refl, ap, ◌∙◌, subst, ⊎_elim, arith}
-use Rattle.std.proofs.lemmas.Bool.{lt-ltb, le-ltb, cases_lt, or_from, or_left, or_right}
+use Rattle.std.proofs.Common.{◌≡◌, ℕ, ◌+◌, ◌-◌, ◌<◌, ◌≤◌, Bool, false, cond, List, [], ◌∷◌, length, get_or, Some, None, sym, refl, ap, ◌∙◌, subst, ⊎_elim, arith}
+use Rattle.std.proofs.lemmas.Bool.{lt-ltb, le-ltb, cases_lt, or_from}
 use Rattle.literals.specs.declared.refusal.Refusal.TheVariants.{OutOfRange, NoSuchPlace}
 use Rattle.literals.specs.declared.setting.Setting.{Setting}
-use Rattle.literals.specs.Literals.{no_switch}
 use Rattle.literals.specs.Refusals.{first_failed}
 use Rattle.rules.specs.declared.Verdict.TheVariants.{Broken}
 use Rattle.rules.specs.Scans.{Numbered, first, later}
 use Rattle.rules.proofs.Numbers.{at_numbered, numbered_low}
-use Rattle.shelf.specs.Meanings.{Meaning, Lawful, Every, OfRule, Answers, shut, capped, no_rule, letter_checks, mention_checks}
+use Rattle.shelf.specs.Meanings.{Meaning, Lawful, Every, Answers, shut, capped, no_rule, letter_checks, mention_checks}
 
 pub over : (letter : ℕ) (rs : List Meaning) → 1024 < length rs → capped letter rs ≡ shut letter ∷ []
 over letter rs h = ap (λ (b : Bool). cond b (shut letter ∷ []) rs) (lt-ltb 1024 (length rs) h)

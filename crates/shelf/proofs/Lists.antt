@@ -1,13 +1,13 @@
 -- What a shelf answers whose rules are those of records, or of one list after another.
-use Rattle.std.proofs.Common.{◌≡◌, ℕ, ◌+◌, ◌<◌, ◌≤◌, Bool, true, ◌⊎◌, List, ◌++◌, map, length, sym, refl, ap, ◌∙◌, subst, inl, inr, ⊎_elim, arith}
+use Rattle.std.proofs.Common.{◌≡◌, ℕ, ◌+◌, ◌<◌, ◌≤◌, true, List, ◌++◌, map, length, subst, ⊎_elim, arith}
 use Rattle.literals.specs.declared.literal.Literal.{Literal}
 use Rattle.literals.specs.declared.setting.Setting.{Setting}
 use Rattle.rules.specs.declared.Verdict.{Verdict}
 use Rattle.rules.specs.declared.Verdict.TheVariants.{Quiet, Broken, Forced}
 use Rattle.rules.specs.Rules.{First, Silent}
-use Rattle.rules.specs.Scans.{Numbered, Lowest, Scans}
+use Rattle.rules.specs.Scans.{Lowest, Scans}
 use Rattle.rules.proofs.Numbers.{numbered_map, map_numbered, numbered_left, numbered_right, append_numbered, numbered_low, numbered_high}
-use Rattle.shelf.specs.Meanings.{Meaning, Lawful, Every, OfRule, Answers}
+use Rattle.shelf.specs.Meanings.{Meaning, Every, OfRule, Answers}
 
 -- ---- the rules of records
 

@@ -1,5 +1,5 @@
 -- Of the terms of a rule the first 17 are kept.
-use Rattle.std.proofs.Common.{◌≡◌, ℕ, ◌+◌, ◌<◌, ◌≤◌, List, [], ◌∷◌, ◌++◌, map, length, take, set, sym, refl, ap, ◌∙◌, subst, ap₂, arith}
+use Rattle.std.proofs.Common.{◌≡◌, ℕ, ◌+◌, ◌<◌, ◌≤◌, List, [], ◌∷◌, ◌++◌, map, length, take, set, sym, ap, ◌∙◌, ap₂, arith}
 use Rattle.std.proofs.lemmas.List.{length-take, length-take-le, length-map, length_push, map_push, take_all, take-append-le, take_more_set}
 
 kept-length : {X Y : Type 0} (f : X → Y) (xs : List Y) (n : ℕ) (ys : List X) → length xs ≡ 17 → n ≤ 17 → take n xs ≡ map f (take 17 ys) → n ≡ length (take 17 ys)

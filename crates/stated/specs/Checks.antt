@@ -1,7 +1,7 @@
 -- What is checked of a rule that a rulebook states.
 --   stated_clause_checks   what is checked of a clause, in order
 --   rule_checks            what is checked of a rule, in order, by its kind
-use Rattle.std.specs.Prelude.{ℕ, Bool, true, false, not, ◌||◌, List, [], ◌∷◌, ℤ, ◌==◌}
+use Rattle.std.specs.Prelude.{ℕ, Bool, false, not, ◌||◌, List, [], ◌∷◌, ℤ, ◌==◌}
 use Rattle.literals.specs.declared.refusal.Refusal.TheVariants.{OutOfRange, TermCount, Weight, SwitchTwice, Degree}
 use Rattle.literals.specs.Refusals.{Check, check}
 use Rattle.lists.specs.Lists.{wrong_length, some_outside, switch_twice}

@@ -1,5 +1,5 @@
 -- Terms are known by their weights and the numbers of their literals.
-use Rattle.std.proofs.Common.{◌≡◌, ℕ, List, [], ◌∷◌, map, length, ℤ, IfOk, Ok, Err, Result, refl, ap, ◌∙◌, ap₂, arith}
+use Rattle.std.proofs.Common.{◌≡◌, ℕ, List, [], ◌∷◌, map, length, IfOk, Ok, Err, Result, refl, ap, ap₂, arith}
 use Rattle.literals.specs.Literals.{number}
 use Rattle.literals.proofs.Known.{number_same}
 use Rattle.linear.specs.declared.term.Term.{Term}

@@ -1,5 +1,5 @@
 -- A test of worked facts that the checker computes, and that a fact which passes it holds.
-use Rattle.std.proofs.Common.{◌≡◌, ℕ, ◌+◌, Bool, true, false, cond, not, ◌&&◌, eqb, List, [], ◌∷◌, ◌++◌, ℤ, pos, is_some, Some, None, fold, sum, Option, sym, refl, ap, ◌∙◌, subst, ⊎_elim, arith}
+use Rattle.std.proofs.Common.{◌≡◌, ℕ, ◌+◌, Bool, true, false, cond, not, ◌&&◌, eqb, List, [], ◌∷◌, ◌++◌, ℤ, is_some, Some, None, fold, sum, Option, sym, refl, ap, subst, ⊎_elim, arith}
 use lib.Signed.{lt_z}
 use Rattle.std.specs.List.{AllByRecursion as All}
 use Rattle.std.proofs.lemmas.List.{append-nil, append_assoc}
@@ -16,11 +16,11 @@ use Rattle.lists.specs.Lists.{distinct}
 use Rattle.linear.specs.declared.term.Term.{Term}
 use Rattle.linear.specs.Linears.{at_most_checks}
 use Rattle.linear.specs.Lowests.{passes, improved}
-use Rattle.linear.specs.Slacks.{slack, broken, FirstAbove}
+use Rattle.linear.specs.Slacks.{slack, broken}
 use Rattle.linear.specs.Terms.{literals}
 use Rattle.linear.proofs.Lowests.{Lowest, lowest_push, first_above}
 use Rattle.linear.proofs.Forcing.{first_forced}
-use Rattle.rules.specs.Rules.{First, FirstForced, Silent}
+use Rattle.rules.specs.Rules.{FirstForced}
 use Rattle.supply.specs.Facts.{Says, nothing, forces, breaks, Said, Fact, under, gives, refused, refusal_number, Holds, worked_facts}
 
 -- ---- what a rule says, computed

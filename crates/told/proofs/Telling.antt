@@ -1,10 +1,10 @@
 -- What telling and taking back lean on.
-use Rattle.std.proofs.Common.{◌≡◌, ℕ, ◌+◌, ◌-◌, ◌<◌, ◌≤◌, min, Bool, true, false, cond, not, ◌&&◌, ltb, List, [], ◌∷◌, ◌++◌, length, get_or, take, ℤ, neg_ℤ, Some, None, Ok, Err, Result, sym, refl, ap, ◌∙◌, subst, ap₂, ⊎_elim, arith, MatchResult}
+use Rattle.std.proofs.Common.{◌≡◌, ℕ, ◌+◌, ◌-◌, ◌<◌, ◌≤◌, min, Bool, true, false, cond, not, ltb, List, [], ◌∷◌, ◌++◌, length, get_or, take, ℤ, neg_ℤ, Some, None, Ok, Err, Result, sym, refl, ap, ◌∙◌, subst, ap₂, ⊎_elim, arith, MatchResult}
 use Rattle.std.proofs.lemmas.List.{take_more, take_all}
 use Rattle.std.proofs.lemmas.Bool.{and_from, or_from, cases_lt, lt-ltb, le-ltb}
 use Rattle.literals.specs.declared.literal.Literal.{Literal}
 use Rattle.literals.specs.declared.refusal.Refusal.{Refusal}
-use Rattle.literals.specs.declared.refusal.Refusal.TheVariants.{OutOfRange, Stands, OppositeStands, FewerTold}
+use Rattle.literals.specs.declared.refusal.Refusal.TheVariants.{OutOfRange, Stands, OppositeStands}
 use Rattle.literals.specs.declared.setting.Setting.{Setting}
 use Rattle.literals.specs.Literals.{number, opposite, no_literal, no_switch}
 use Rattle.literals.specs.Refusals.{first_failed, refusal_of}
@@ -12,7 +12,7 @@ use Rattle.literals.specs.Settings.{stands, stands_number, free, plus, minus, no
 use Rattle.literals.proofs.Known.{number-opposite, number_same, number_size}
 use Rattle.literals.proofs.Standing.{free_parts, number-stands, minus_plus, plus_all_fits, nothing_fits}
 use Rattle.literals.proofs.Refused.{past-check}
-use Rattle.lists.specs.Lists.{mentioned, distinct}
+use Rattle.lists.specs.Lists.{distinct}
 use Rattle.lists.proofs.Sets.{plus_all-push, distinct_push, distinct-take, free_new, new_free, last_new, room}
 use Rattle.told.specs.Tellings.{free_checks, tell_checks, back_checks, Appended}
 

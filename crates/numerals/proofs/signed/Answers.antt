@@ -1,9 +1,8 @@
-use Rattle.std.proofs.Common.{◌≡◌, get_or, pos, ◌-ℤ◌, neg_ℤ, refl, arith, w32, to_z, of_z, rules}
+use Rattle.std.proofs.Common.{◌≡◌, pos, ◌-ℤ◌, neg_ℤ, arith, w32, to_z, of_z, rules}
 use Rattle.std.proofs.lemmas.List.{get_or_past}
 use Rattle.std.proofs.lemmas.Int.{ints}
 use Rattle.numerals.specs.Numerals.{plain}
 use Rattle.numerals.proofs.Reading.{minus_none, minus-zero, minus_written, plain_none}
-use Rattle.numerals.proofs.Writing.{decimal_writes}
 use Rattle.numerals.proofs.signed.Goals as goal
 use Rattle.numerals.proofs.signed.Goals.{in_default-via-then-text-lt1, in_default-via-else-text-lt1+in_default-1}
 

@@ -1,4 +1,4 @@
-use Rattle.std.proofs.Common.{◌≡◌, ℕ, ◌+◌, ◌<◌, List, length, get_or, sym, ap, ◌∙◌, arith, rules}
+use Rattle.std.proofs.Common.{◌≡◌, ◌+◌, ◌<◌, length, get_or, ap, arith, rules}
 use Rattle.runs.specs.declared.step.Step.{Step}
 use Rattle.reasons.proofs.Explaining.{explains, free_refused, place_step, place_within, standing_told, trail_because, trail_once}
 use Rattle.reasons.proofs.explain.Goals as goal

@@ -1,7 +1,5 @@
-use Rattle.std.proofs.Common.{◌≡◌, ℕ, ◌+◌, ◌-◌, ◌<◌, ◌≤◌, true, false, List, length, take, sym, ap, ◌∙◌, subst, arith}
-use Rattle.literals.specs.declared.setting.Setting.{Setting}
+use Rattle.std.proofs.Common.{◌≡◌, ℕ, ◌+◌, ◌-◌, ◌≤◌, true, false, take, subst, arith}
 use Rattle.literals.specs.Settings.{plus, nothing, stands}
-use Rattle.runs.specs.declared.step.Step.{Step}
 use Rattle.reasons.specs.Whys.{AllMarked, Collected, Marks}
 use Rattle.reasons.proofs.Places.{here, down}
 use Rattle.reasons.proofs.Reaching.{starts, none_yet, unmarked, at_chosen, at_locked}

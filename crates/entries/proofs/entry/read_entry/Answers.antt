@@ -1,4 +1,3 @@
-use Rattle.std.proofs.Common.{◌≡◌}
 use Rattle.std.proofs.lemmas.Result.{err_from_is_err_and}
 use Rattle.lines.specs.Fields.{fields_of, places_of}
 use Rattle.entries.proofs.Columns.{kept, refused_first, refused_second, refused_third, refused_fourth, refused_fifth, columns_apart}

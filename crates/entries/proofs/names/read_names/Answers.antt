@@ -1,5 +1,5 @@
 use Rattle.std.proofs.Common.{sym, ◌∙◌}
-use Rattle.entries.proofs.Once.{names_apart, one_entry}
+use Rattle.entries.proofs.Once.{names_apart}
 use Rattle.entries.proofs.names.read_names.Goals as goal
 
 pub returns-in_err-fifth : goal.returns-in_err-fifth

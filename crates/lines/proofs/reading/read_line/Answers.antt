@@ -1,4 +1,4 @@
-use Rattle.std.proofs.Common.{◌≡◌, ℕ, refl, ap, ◌∙◌, subst}
+use Rattle.std.proofs.Common.{ℕ, refl, ap, ◌∙◌}
 use Rattle.lines.specs.Lines.{Five, after, places}
 use Rattle.lines.proofs.Lines.{no_first, no_second, no_third, no_fourth, no_fifth, carried, none_carried, whole_line, line_ends, line_places, line_here, no_line_here}
 use Rattle.lines.proofs.reading.read_line.Goals as goal

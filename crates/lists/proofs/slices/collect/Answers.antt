@@ -1,7 +1,6 @@
 use Rattle.std.proofs.Common.{◌≡◌, Bool, cond, List, [], get_or, ℤ, pos, Some, None, sym, refl, ap, ◌∙◌, subst, take_all, w16, to_z, of_z, rules}
 use Rattle.std.proofs.lemmas.Result.{err_from_is_err_and}
 use Rattle.literals.specs.declared.refusal.Refusal.TheVariants.{OutOfRange}
-use Rattle.literals.specs.declared.setting.Setting.{Setting}
 use Rattle.lists.specs.Lists.{Collects}
 use Rattle.lists.proofs.Reading.{outside_here, inside_more, inside_all, collects_none, collects_more}
 use Rattle.lists.proofs.slices.collect.Goals as goal

@@ -1,4 +1,4 @@
-use Rattle.std.proofs.Common.{◌≡◌, ℕ, ◌+◌, ltb, sym, ap, ◌∙◌, arith, rules}
+use Rattle.std.proofs.Common.{sym, ◌∙◌}
 use Rattle.pair.proofs.Joining.{none_left, joined_over, joined_rules}
 use Rattle.pair.proofs.Pair.join.Goals as goal
 

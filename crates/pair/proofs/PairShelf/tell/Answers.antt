@@ -1,5 +1,4 @@
 use Rattle.std.proofs.Common.{◌≡◌, length, ℤ, sym, ap, ◌∙◌, w16, to_z, of_z, rules}
-use Rattle.std.proofs.lemmas.Int.{to_z-of_z}
 use Rattle.pair.proofs.Joining.{both_tell, same_told, tell_refused, tell_told, joined_rules, joined_kept}
 use Rattle.pair.proofs.PairShelf.tell.Goals as goal
 

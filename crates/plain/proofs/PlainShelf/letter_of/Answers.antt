@@ -1,5 +1,4 @@
-use Rattle.std.proofs.Common.{◌≡◌, ℕ, ◌≤◌, length, ◌∙◌, subst, arith}
-use Rattle.shelf.specs.Meanings.{OfRule}
+use Rattle.std.proofs.Common.{◌≤◌, length, ◌∙◌, arith}
 use Rattle.shelf.proofs.Caps.{letter_there}
 use Rattle.plain.specs.Plains.{plain_rules}
 use Rattle.plain.proofs.Limits.{letters}

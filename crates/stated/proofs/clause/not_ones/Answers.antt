@@ -2,7 +2,6 @@ use Rattle.std.proofs.Common.{sym, ◌∙◌}
 use Rattle.std.proofs.lemmas.List.{at_drop_all}
 use Rattle.stated.specs.Checks.{not_ones}
 use Rattle.stated.proofs.Checking.{other_weight, one_more}
-use Rattle.stated.proofs.Narrowing.{kept_whole}
 use Rattle.stated.proofs.clause.not_ones.Goals as goal
 
 pub returns-then-w-ne1 : goal.returns-then-w-ne1

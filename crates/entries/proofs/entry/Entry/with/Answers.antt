@@ -1,4 +1,3 @@
-use Rattle.std.proofs.Common.{◌≡◌, refl}
 use Rattle.entries.proofs.entry.Entry.with.Goals as goal
 
 pub returns-in-None : goal.returns-in-None

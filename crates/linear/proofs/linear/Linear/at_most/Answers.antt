@@ -1,4 +1,4 @@
-use Rattle.std.proofs.Common.{◌≡◌, ◌-◌, ◌≤◌, Bool, false, cond, leb, [], ◌∷◌, map, length, neg_ℤ, Some, None, sum, sym, ap, ◌∙◌, arith}
+use Rattle.std.proofs.Common.{◌≡◌, Bool, false, cond, leb, [], ◌∷◌, map, length, neg_ℤ, Some, None, sum, sym, ap, ◌∙◌, arith}
 use Rattle.std.proofs.lemmas.List.{length-map}
 use Rattle.std.proofs.lemmas.Bool.{lt-leb}
 use Rattle.literals.specs.declared.refusal.Refusal.TheVariants.{Degree}

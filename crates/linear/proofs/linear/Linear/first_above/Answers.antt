@@ -1,10 +1,7 @@
-use Rattle.std.proofs.Common.{◌≡◌, true, false, List, ℤ, pos, sym, ap, ◌∙◌, subst, arith, take_all, w64, to_z, of_z}
+use Rattle.std.proofs.Common.{◌≡◌, false, List, ℤ, pos, ◌∙◌, subst, arith, take_all, w64, to_z, of_z}
 use lib.Signed.{lt_z}
 use Rattle.std.proofs.lemmas.Int.{to_z-of_z, ints}
-use Rattle.lists.specs.Lists.{distinct}
 use Rattle.linear.specs.declared.term.Term.{Term}
-use Rattle.linear.specs.Terms.{literals}
-use Rattle.linear.specs.Slacks.{FirstAbove}
 use Rattle.linear.specs.Lowests.{passes}
 use Rattle.linear.specs.Linears.{terms_of}
 use Rattle.linear.proofs.Lowests.{Lowest, lowest_more, first_above}

@@ -1,4 +1,4 @@
-use Rattle.std.proofs.Common.{◌≡◌, ◌<◌, ◌≤◌, List, length, ℤ, pos, ◌+ℤ◌, ap, ◌∙◌, arith, take_all, w64, SFits, to_z, of_z, rules}
+use Rattle.std.proofs.Common.{◌≤◌, List, ap, ◌∙◌, arith, take_all, rules}
 use Rattle.std.proofs.lemmas.Int.{ints, to_z-of_z}
 use Rattle.linear.specs.declared.term.Term.{Term}
 use Rattle.linear.specs.Slacks.{slack}

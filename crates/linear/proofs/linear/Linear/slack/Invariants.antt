@@ -1,4 +1,4 @@
-use Rattle.std.proofs.Common.{◌≡◌, ◌*◌, ◌≤◌, length, take, pos, ◌-ℤ◌}
+use Rattle.std.proofs.Common.{◌≡◌, ◌*◌, ◌≤◌, take}
 use Rattle.linear.specs.Slacks.{slack}
 use Rattle.linear.specs.Terms.{counted}
 use Rattle.linear.proofs.linear.Linear.slack.Given as goal

@@ -1,4 +1,4 @@
-use Rattle.std.proofs.Common.{◌≡◌, sym, ◌∙◌}
+use Rattle.std.proofs.Common.{sym, ◌∙◌}
 use Rattle.std.proofs.lemmas.List.{at_drop_all}
 use Rattle.linear.specs.Terms.{bad_after}
 use Rattle.linear.proofs.Checking.{bad_zero, bad_rise, good_more}

@@ -1,4 +1,3 @@
-use Rattle.std.proofs.Common.{◌≡◌}
 use Rattle.runs.specs.declared.calls.Answer.TheVariants.{Done, Refused}
 use Rattle.session.specs.Sessions.{seen}
 use Rattle.script.specs.declared.request.Request.TheVariants.{Back}

@@ -1,7 +1,7 @@
-use Rattle.std.proofs.Common.{◌≡◌, Some, None, sym, refl, ap, ◌∙◌, subst}
+use Rattle.std.proofs.Common.{Some, None, sym, refl, ap, subst}
 use Rattle.runs.specs.declared.calls.Answer.TheVariants.{Done, Refused}
 use Rattle.session.specs.Sessions.{seen}
-use Rattle.script.specs.declared.request.Request.TheVariants.{BackFromClash, Close}
+use Rattle.script.specs.declared.request.Request.TheVariants.{Close}
 use Rattle.script.specs.Players.{Hand}
 use Rattle.script.specs.Plays.{passed}
 use Rattle.script.proofs.Hands.{spent_close, same_hand, moved_sound, moved_rules, moved_plays}

@@ -1,10 +1,8 @@
-use Rattle.std.proofs.Common.{◌≡◌, Some, None, Ok, Option, sym, refl, ap, ◌∙◌, subst}
+use Rattle.std.proofs.Common.{◌≡◌, Some, None, Ok, ap, subst}
 use Rattle.runs.specs.declared.calls.Answer.TheVariants.{Grown, Clash, Refused}
 use Rattle.runs.specs.declared.calls.Call.TheVariants as call
 use Rattle.runs.specs.Calls.{Does}
 use Rattle.session.specs.declared.receipt.Outcome.{Outcome}
-use Rattle.session.specs.declared.receipt.Receipt.{Receipt}
-use Rattle.session.specs.declared.session.Session.{Session}
 use Rattle.session.specs.Outcomes.{settled}
 use Rattle.session.specs.Sessions.{seen}
 use Rattle.script.specs.declared.request.Request.TheVariants.{Settle}

@@ -1,5 +1,4 @@
 use Rattle.std.proofs.Common.{◌≡◌, ℤ, sym, ◌∙◌, w16, to_z, of_z, rules}
-use Rattle.literals.specs.Literals.{number}
 use Rattle.session.proofs.Settling.{roomy, lives}
 use Rattle.session.proofs.session.Session.lock.Goals as goal
 

@@ -1,4 +1,4 @@
-use Rattle.std.proofs.Common.{◌≡◌, [], ◌∷◌, ◌++◌, map, take, sym, ap, ◌∙◌, subst, arith, rules}
+use Rattle.std.proofs.Common.{map, take, sym, ap, ◌∙◌, rules}
 use Rattle.std.proofs.lemmas.List.{map_push}
 use Rattle.stated.specs.Stated.{StatedTerm, stated_weights, stated_switches, small_weight, small_switch, term_of}
 use Rattle.stated.proofs.Keeping.{kept_full, kept_more}

@@ -1,5 +1,4 @@
-use Rattle.std.proofs.Common.{◌≡◌, true, List, take, sym, ap, ◌∙◌, arith, take_all}
-use Rattle.literals.specs.declared.literal.Literal.{Literal}
+use Rattle.std.proofs.Common.{◌≡◌, true, take, sym, ap, ◌∙◌, arith, take_all}
 use Rattle.literals.specs.Settings.{set_of}
 use Rattle.lists.specs.Lists.{distinct}
 use Rattle.told.proofs.Telling.{back_one, back_all}

@@ -1,8 +1,7 @@
-use Rattle.std.proofs.Common.{◌≡◌, false, Decides, sym, ap, ◌∙◌}
+use Rattle.std.proofs.Common.{◌≡◌, false, sym, ap, ◌∙◌}
 use Rattle.std.proofs.lemmas.Bool.{and_left}
 use Rattle.std.proofs.lemmas.Bool.Decides.{Decides-at}
 use Rattle.literals.specs.declared.setting.Setting.{Setting}
-use Rattle.literals.specs.Literals.{opposite}
 use Rattle.literals.specs.Settings.{plus}
 use Rattle.clauses.specs.Clauses.{all_false, alone, literals_in}
 use Rattle.clauses.specs.Openness.{alone_broken, alone_free}

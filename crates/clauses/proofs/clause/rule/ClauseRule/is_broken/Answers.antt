@@ -1,4 +1,4 @@
-use Rattle.std.proofs.Common.{◌≡◌, Bool, not, List, sym, ap, ◌∙◌, arith}
+use Rattle.std.proofs.Common.{◌≡◌, Bool, not, List, ap, ◌∙◌, arith}
 use Rattle.literals.specs.declared.literal.Literal.{Literal}
 use Rattle.clauses.specs.Clauses.{all_false}
 use Rattle.clauses.specs.Openness.{none_open}

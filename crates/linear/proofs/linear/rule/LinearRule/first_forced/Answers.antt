@@ -1,4 +1,4 @@
-use Rattle.std.proofs.Common.{◌≡◌, ℤ, ◌∙◌, subst, w64, SFits, rules}
+use Rattle.std.proofs.Common.{ℤ, ◌∙◌, subst, w64, SFits, rules}
 use Rattle.std.proofs.lemmas.Int.{to_z-of_z}
 use Rattle.linear.specs.Slacks.{FirstAbove}
 use Rattle.linear.specs.Linears.{terms_of}

@@ -3,7 +3,6 @@ use lib.Signed.{lt_z}
 use Rattle.std.proofs.lemmas.Int.{to_z-of_z, ints}
 use Rattle.std.proofs.lemmas.Bool.Decides.{Decides-at}
 use Rattle.linear.specs.Slacks.{slack, above}
-use Rattle.linear.specs.Terms.{weight_of}
 use Rattle.linear.specs.Linears.{terms_of}
 use Rattle.linear.proofs.Forcing.{decides_forces}
 use Rattle.linear.proofs.linear.rule.LinearRule.forces.Goals as goal
