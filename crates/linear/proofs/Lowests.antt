@@ -1,9 +1,9 @@
 -- The literal of the lowest switch among the terms that pass a test: the loop that looks for it, and that it is the first above a number.
 use Rattle.std.proofs.Common.{◌≡◌, ℕ, ◌+◌, ◌<◌, ◌≤◌, Bool, true, false, cond, not, ◌&&◌, ltb, ◌⊎◌, List, [], ◌∷◌, ◌++◌, length, get_or, take, ℤ, pos, Some, None, Option, sym, refl, ap, ◌∙◌, subst, inl, inr, ⊎_elim, arith}
 use lib.Signed.{lt_z}
-use Rattle.std.specs.List.{AllByRecursion as All}
-use Rattle.std.proofs.ByRecursion.{All-weaker, All-push}
+use Rattle.std.specs.List.{All}
 use Rattle.std.proofs.lemmas.List.{take_more}
+use Rattle.std.proofs.lemmas.List.Elements.{All-head, All-tail, All-push, All-weaker}
 use Rattle.std.proofs.lemmas.Int.{ints}
 use Rattle.std.proofs.lemmas.List.Sums.{sum_by-cons}
 use Rattle.std.proofs.lemmas.Bool.{cases_Bool, and_parts, and_from, and_cases, not-true, not_from_false, both_ways, cond_both, ltb-true, ltb-false}
@@ -77,8 +77,8 @@ lowest_more p ts i t best next lt is e h =
 
 any_from_all : (P Q : Term → Type 0) (ts : List Term) (R : Type 0) → ((t : Term) → P t → Q t → R) → Any P ts → All Q ts → R
 any_from_all P Q [] R f h k = absurd h
-any_from_all P Q (t ∷ ts) R f (inl h) k = f t h k.0
-any_from_all P Q (t ∷ ts) R f (inr h) k = any_from_all P Q ts R f h k.1
+any_from_all P Q (t ∷ ts) R f (inl h) k = f t h (All-head Q t ts k)
+any_from_all P Q (t ∷ ts) R f (inr h) k = any_from_all P Q ts R f h (All-tail Q t ts k)
 
 abbrev Weighs : List Term → Literal → Term → Type 0
 Weighs ts l t = (t.literal ≡ l) × (t.weight ≡ weight_of ts l)
@@ -153,12 +153,12 @@ module _ (ts : List Term) (z : ℤ) (s : Setting) (d : distinct (literals ts) �
 
   pub first_above : (best : Option Literal) → Lowest (passes z s) ts best → FirstAbove ts z s best
   first_above None h =
-      λ l. ⊎_elim (λ on. absurd (any_from_all _ _ ts ⊥ (λ t p off. both_ways _ off p.0) (term-above l on) h)) (λ off. off) (cases_Bool (above ts z s l))
+      λ l. ⊎_elim (λ on. absurd (any_from_all _ (λ t. passes z s t ≡ false) ts ⊥ (λ t p off. both_ways _ off p.0) (term-above l on) h)) (λ off. off) (cases_Bool (above ts z s l))
   first_above (Some l) h =
       let found = any_weighs ts (passes z s) l d h.0 in
       let t = found.0 in
       let both = and_parts (lt_z z (pos t.weight)) (free s t.literal) found.1 in (
         and_from _ _ (not_from_false _ low)
             (and_from _ _ (subst (λ (m : Literal). free s m ≡ true) found.2.0 both.1) (ap (λ (n : ℕ). lt_z z (pos n)) (sym found.2.1) ∙ both.0)),
-        λ k on. any_from_all _ _ ts (l.switch ≤ k.switch) (λ t p f. subst (λ (m : Literal). l.switch ≤ m.switch) p.1 (f p.0)) (term-above k on) h.1,
+        λ k on. any_from_all _ (λ t. passes z s t ≡ true → l.switch ≤ t.literal.switch) ts (l.switch ≤ k.switch) (λ t p f. subst (λ (m : Literal). l.switch ≤ m.switch) p.1 (f p.0)) (term-above k on) h.1,
       )

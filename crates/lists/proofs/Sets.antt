@@ -1,8 +1,9 @@
 -- The set of a list of literals over distinct switches: what stands in it, what is free, and how many switches it leaves free.
 use Rattle.std.proofs.Common.{◌≡◌, ℕ, zero, suc, ◌+◌, ◌<◌, Bool, true, false, not, ◌&&◌, ◌||◌, eqb, List, [], ◌∷◌, ◌++◌, length, take, sym, refl, ap, ◌∙◌, ⊎_elim, arith}
-use Rattle.std.specs.List.{AllByRecursion as All}
+use Rattle.std.specs.List.{All}
 use Rattle.std.proofs.lemmas.Bool.{and_parts, and_from, and_left, cases_Bool, eqb-true, eqb-false, not-true, or_from, or_parts}
 use Rattle.std.proofs.lemmas.Bool.Decides.{nat_tests}
+use Rattle.std.proofs.lemmas.List.Elements.{All-nil, All-cons, All-head, All-tail}
 use Rattle.literals.specs.declared.literal.Literal.{Literal}
 use Rattle.literals.specs.declared.setting.Setting.{Setting}
 use Rattle.literals.specs.Settings.{free, plus, nothing, plus_all, set_of, free_count}
@@ -88,23 +89,24 @@ count_from : (s : Setting) (ls : List Literal) → distinct ls ≡ true → All 
 count_from s [] d f = omega arith
 count_from s (l ∷ ls) d f =
     let once = and_parts (not (mentioned ls l.switch)) (distinct ls) d in
-    let rest = count_from (plus s l) ls once.1 (still ls (not-true _ once.0) f.1) in
-    let one = free_count-plus s l f.0 in
+    let rest = count_from (plus s l) ls once.1 (still ls (not-true _ once.0) (All-tail (λ k. free s k ≡ true) l ls f)) in
+    let one = free_count-plus s l (All-head (λ k. free s k ≡ true) l ls f) in
     omega arith
   where
     still : (ks : List Literal) → mentioned ks l.switch ≡ false → All (λ k. free s k ≡ true) ks → All (λ k. free (plus s l) k ≡ true) ks
-    still [] h g = tt
+    still [] h g = All-nil (λ k. free (plus s l) k ≡ true)
     still (k ∷ ks) h g =
         let both = or_parts (eqb k.switch l.switch) (mentioned ks l.switch) h in
-        (plus-free s l k (eqb-false _ _ both.0) ∙ g.0, still ks both.1 g.1)
+        All-cons (λ m. free (plus s l) m ≡ true) k ks (plus-free s l k (eqb-false _ _ both.0) ∙ All-head (λ m. free s m ≡ true) k ks g)
+        (still ks both.1 (All-tail (λ m. free s m ≡ true) k ks g))
 
 -- each literal takes one of the 64 switches
 pub count_free : (ls : List Literal) → distinct ls ≡ true → length ls + free_count (set_of ls) ≡ 64
 count_free ls d = count_from nothing ls d (all_free ls) ∙ free_count-nothing
   where
     all_free : (ks : List Literal) → All (λ k. free nothing k ≡ true) ks
-    all_free [] = tt
-    all_free (k ∷ ks) = (nothing-free k, all_free ks)
+    all_free [] = All-nil (λ k. free nothing k ≡ true)
+    all_free (k ∷ ks) = All-cons (λ m. free nothing m ≡ true) k ks (nothing-free k) (all_free ks)
 
 pub room : (ls : List Literal) (l : Literal) → distinct ls ≡ true → free (set_of ls) l ≡ true → length ls < 64
 room ls l d f = let a = count_free ls d in let b = free_count-plus (set_of ls) l f in omega arith

@@ -1,5 +1,5 @@
 ghost use Rattle.std.specs.Prelude.{◌≡◌, ℕ, ◌-◌, not, ◌&&◌, ◌||◌, Decides};
-ghost use Rattle.bits.specs.Words.{bit as has-bit};
+ghost use Rattle.bits.specs.Words.{bit as has_bit};
 ghost use Rattle.literals.specs.declared.literal.Literal.{Literal as Lit};
 ghost use Rattle.literals.specs.Literals.{same, opposite};
 ghost use Rattle.literals.specs.Settings.{stands, free, free_switch, minus, plus, nothing, free_count, ◌⊆◌};
@@ -92,7 +92,7 @@ impl Setting {
 
     // The switches that are not free, as a word: switch n is bit n - 1.
     pub fn switches(&self) -> u64
-        ensures { (n : ℕ) → has-bit result (n - 1) ≡ not (free_switch self.now n) }
+        ensures { (n : ℕ) → has_bit result (n - 1) ≡ not (free_switch self.now n) }
     {
         self.on | self.off
     }

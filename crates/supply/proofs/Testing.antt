@@ -1,8 +1,9 @@
 -- A test of worked facts that the checker computes, and that a fact which passes it holds.
 use Rattle.std.proofs.Common.{◌≡◌, ℕ, ◌+◌, Bool, true, false, cond, not, ◌&&◌, eqb, List, [], ◌∷◌, ◌++◌, ℤ, is_some, Some, None, fold, sum, Option, sym, refl, ap, subst, ⊎_elim, arith}
 use lib.Signed.{lt_z}
-use Rattle.std.specs.List.{AllByRecursion as All}
+use Rattle.std.specs.List.{All}
 use Rattle.std.proofs.lemmas.List.{append-nil, append_assoc}
+use Rattle.std.proofs.lemmas.List.Elements.{All-nil, All-cons}
 use Rattle.std.proofs.lemmas.Int.{ints}
 use Rattle.std.proofs.lemmas.Bool.{and_parts, eqb-true, both_ways, cases_Bool, not-true}
 use Rattle.literals.specs.declared.literal.Literal.{Literal}
@@ -51,7 +52,7 @@ said ts d s once = ⊎_elim broken_here whole_here (cases_Bool (broken ts d s))
     whole_here : broken ts d s ≡ false → Said (broken ts d) s (says_of ts d s)
     whole_here b =
         let o = fold (improved (passes (slack ts d s) s)) None ts in
-        let low = lowest_from (passes (slack ts d s) s) [] ts None tt in
+        let low = lowest_from (passes (slack ts d s) s) [] ts None (All-nil (λ t. passes (slack ts d s) s t ≡ false)) in
         subst (λ (x : Bool). Said (broken ts d) s (cond x breaks (by_literal o))) (sym b)
         (said_literal (broken ts d) s o b (first_forced ts d s once o (first_above ts (slack ts d s) s once b o low)))
 
@@ -113,8 +114,8 @@ all_pass [] = true
 all_pass (f ∷ fs) = passes_test f && all_pass fs
 
 all_hold : (fs : List Fact) → all_pass fs ≡ true → All Holds fs
-all_hold [] h = tt
-all_hold (f ∷ fs) h = let both = and_parts (passes_test f) (all_pass fs) h in (holds f both.0, all_hold fs both.1)
+all_hold [] h = All-nil Holds
+all_hold (f ∷ fs) h = let both = and_parts (passes_test f) (all_pass fs) h in All-cons Holds f fs (holds f both.0) (all_hold fs both.1)
 
 pub worked_facts_hold : All Holds worked_facts
 unfolding stands plus empty

@@ -1,9 +1,8 @@
 #![tactic(auto)]
 
 // The supply limit of a bakery's oven, and worked facts about it and other rules.
-ghost use Rattle.std.specs.Prelude.{◌≡◌, IfOk, None, Ok};
+ghost use Rattle.std.specs.Prelude.{◌≡◌, All, IfOk, None, Ok};
 ghost use Rattle.linear.specs.Linears.{terms_of};
-ghost use Rattle.std.specs.List.{AllByRecursion as All};
 ghost use Rattle.literals.specs.Refusals.{refusal_of};
 ghost use Rattle.supply.specs.Facts.{Holds, limit_degree, limit_terms, worked_facts};
 
