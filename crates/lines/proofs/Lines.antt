@@ -13,32 +13,32 @@ module _ (t : List ℕ) (p : ℕ) where
   pub no_first : NoFieldAt t p 32 → NoLineAt t p
   no_first no1 w l = no1 _ l.first
 
-  module _ (a : List ℕ) (p2 : ℕ) (b1 : FieldAt t p a 32) (e2 : p2 ≡ past p a) where
-    same2 : (w : Five) → LineAt t p w → place2 p w ≡ p2
+  module _ (a : List ℕ) (q2 : ℕ) (b1 : FieldAt t p a 32) (e2 : q2 ≡ past p a) where
+    same2 : (w : Five) → LineAt t p w → place2 p w ≡ q2
     same2 w l = let k = ap length (same_field space b1 l.first) in omega arith
 
-    pub no_second : NoFieldAt t p2 32 → NoLineAt t p
+    pub no_second : NoFieldAt t q2 32 → NoLineAt t p
     no_second no1 w l = no1 _ (moved (same2 w l) l.second)
 
-    module _ (b : List ℕ) (p3 : ℕ) (b2 : FieldAt t p2 b 32) (e3 : p3 ≡ past p2 b) where
-      same3 : (w : Five) → LineAt t p w → place3 p w ≡ p3
+    module _ (b : List ℕ) (q3 : ℕ) (b2 : FieldAt t q2 b 32) (e3 : q3 ≡ past q2 b) where
+      same3 : (w : Five) → LineAt t p w → place3 p w ≡ q3
       same3 w l = let s = same2 w l in let k = ap length (same_field space b2 (moved s l.second)) in omega arith
 
-      pub no_third : NoFieldAt t p3 32 → NoLineAt t p
+      pub no_third : NoFieldAt t q3 32 → NoLineAt t p
       no_third no1 w l = no1 _ (moved (same3 w l) l.third)
 
-      module _ (c : List ℕ) (p4 : ℕ) (b3 : FieldAt t p3 c 32) (e4 : p4 ≡ past p3 c) where
-        same4 : (w : Five) → LineAt t p w → place4 p w ≡ p4
+      module _ (c : List ℕ) (q4 : ℕ) (b3 : FieldAt t q3 c 32) (e4 : q4 ≡ past q3 c) where
+        same4 : (w : Five) → LineAt t p w → place4 p w ≡ q4
         same4 w l = let s = same3 w l in let k = ap length (same_field space b3 (moved s l.third)) in omega arith
 
-        pub no_fourth : NoFieldAt t p4 32 → NoLineAt t p
+        pub no_fourth : NoFieldAt t q4 32 → NoLineAt t p
         no_fourth no1 w l = no1 _ (moved (same4 w l) l.fourth)
 
-        module _ (d : List ℕ) (p5 : ℕ) (b4 : FieldAt t p4 d 32) (e5 : p5 ≡ past p4 d) where
-          same5 : (w : Five) → LineAt t p w → place5 p w ≡ p5
+        module _ (d : List ℕ) (q5 : ℕ) (b4 : FieldAt t q4 d 32) (e5 : q5 ≡ past q4 d) where
+          same5 : (w : Five) → LineAt t p w → place5 p w ≡ q5
           same5 w l = let s = same4 w l in let k = ap length (same_field space b4 (moved s l.fourth)) in omega arith
 
-          pub no_fifth : NoFieldAt t p5 10 → NoLineAt t p
+          pub no_fifth : NoFieldAt t q5 10 → NoLineAt t p
           no_fifth no1 w l = no1 _ (moved (same5 w l) l.fifth)
 
 -- ---- what was read of ys, which is xs
@@ -59,25 +59,25 @@ same-places w v e1 e2 e3 e4 e5 =
 
 -- ---- five fields that were read one after the other, at the places where the reading stood
 
-module _ (t : List ℕ) (p : ℕ) (w : Five) (p2 p3 p4 p5 p6 : ℕ)
-    (e2 : p2 ≡ past p w.first) (e3 : p3 ≡ past p2 w.second) (e4 : p4 ≡ past p3 w.third)
-    (e5 : p5 ≡ past p4 w.fourth) (e6 : p6 ≡ past p5 w.fifth) where
-  at3 : p3 ≡ place3 p w
+module _ (t : List ℕ) (p : ℕ) (w : Five) (q2 q3 q4 q5 q6 : ℕ)
+    (e2 : q2 ≡ past p w.first) (e3 : q3 ≡ past q2 w.second) (e4 : q4 ≡ past q3 w.third)
+    (e5 : q5 ≡ past q4 w.fourth) (e6 : q6 ≡ past q5 w.fifth) where
+  at3 : q3 ≡ place3 p w
   at3 = omega arith
 
-  at4 : p4 ≡ place4 p w
+  at4 : q4 ≡ place4 p w
   at4 = omega arith
 
-  at5 : p5 ≡ place5 p w
+  at5 : q5 ≡ place5 p w
   at5 = omega arith
 
-  pub line_ends : p6 ≡ after p w
+  pub line_ends : q6 ≡ after p w
   line_ends = omega arith
 
-  pub line_places : (q : Places) → q.first ≡ p → q.second ≡ p2 → q.third ≡ p3 → q.fourth ≡ p4 → q.fifth ≡ p5 → q ≡ places p w
+  pub line_places : (q : Places) → q.first ≡ p → q.second ≡ q2 → q.third ≡ q3 → q.fourth ≡ q4 → q.fifth ≡ q5 → q ≡ places p w
   line_places q f1 f2 f3 f4 f5 = same-places q (places p w) f1 (f2 ∙ e2) (f3 ∙ at3) (f4 ∙ at4) (f5 ∙ at5)
 
-  pub whole_line : FieldAt t p w.first 32 → FieldAt t p2 w.second 32 → FieldAt t p3 w.third 32 → FieldAt t p4 w.fourth 32 → FieldAt t p5 w.fifth 10 → LineAt t p w
+  pub whole_line : FieldAt t p w.first 32 → FieldAt t q2 w.second 32 → FieldAt t q3 w.third 32 → FieldAt t q4 w.fourth 32 → FieldAt t q5 w.fifth 10 → LineAt t p w
   whole_line b1 b2 b3 b4 b5 = record { first = b1; second = moved e2 b2; third = moved at3 b3; fourth = moved at4 b4; fifth = moved at5 b5 }
 
 -- ---- one line stands at a place

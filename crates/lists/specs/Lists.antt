@@ -6,7 +6,7 @@
 --   switch_twice   two numbers handed in are those of one switch
 --   read_checks    what is checked of a list of numbers, in order
 --   literals_of    the literals that a `Literals` holds
---   _∈_            a number is one of a list
+--   ◌∈◌            a number is one of a list
 --   Collects       a set has exactly the literals of these numbers
 use Rattle.std.specs.Prelude.{◌≡◌, ℕ, Bool, true, false, not, ◌&&◌, ◌||◌, ◌⊎◌, List, [], ◌∷◌, length, take, ℤ, Decides, ◌==◌, nat_lt}
 use Rattle.literals.specs.declared.literal.Literal.{Literal}

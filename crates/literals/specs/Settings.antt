@@ -5,7 +5,7 @@
 --   nothing        the empty set
 --   plus           the set with a literal added
 --   minus          the set with a literal taken out
---   _⊆_            a set is contained in another
+--   ◌⊆◌            a set is contained in another
 --   set_of         the set of a list of literals
 --   free_count     how many switches are free
 use Rattle.std.specs.Prelude.{◌≡◌, ℕ, ◌-◌, ◌^◌, Bool, true, cond, not, ◌&&◌, ◌||◌, List, [], ◌∷◌, length, ℤ, pos, negsuc, bit_and, bit_or}

@@ -25,8 +25,7 @@ pub trait Shelf {
 
     ghost told: { Self → List Literal };
 
-    // Does nothing: what it ensures are the laws of every shelf. (A `law` item would leave kinds that borrow their rules
-    // without a generated proof.)
+    // Does nothing: what it ensures are the laws of every shelf.
     fn laws(&self)
         requires { sound self.now }
         ensures few { length (rules self.now) ≤ 1024 }
