@@ -3,6 +3,7 @@
 // The plain shelf, letter p: the caller's records of any kind of rule, scanned at every question.
 ghost use Rattle.std.specs.Prelude.{◌≡◌, []};
 ghost use Rattle.plain.specs.Plains.{plain_rules};
+ghost use Rattle.plain.specs.Laws.{plain_few, plain_lawful};
 ghost use Rattle.told.specs.Lists.{told_of};
 
 use literals::Refusal;
@@ -37,13 +38,15 @@ impl<'a, R: Rule> Shelf for Plain<'a, R> {
 
     const LETTER: Letter<112> = Letter { letter: 'p' };
 
-    ghost sound = { λ _. Unit {0} };
-
     ghost rules = { λ p. plain_rules R.Rule.breaks R.Rule.mentions p.records.now };
 
     ghost told = { λ p. told_of p.told };
 
-    fn laws(&self) {}
+    ghost few = { λ p. plain_few R.Rule.breaks R.Rule.mentions p.records.now };
+
+    ghost lawful = { λ p. plain_lawful R.Rule.breaks R.Rule.mentions p.records.now R.Rule.grows R.Rule.ignores };
+
+    ghost once = { λ p. p.told.once };
 
     fn tell(&mut self, n: i16) -> Result<(), Refusal> {
         self.told.tell(n)
