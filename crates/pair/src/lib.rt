@@ -2,8 +2,9 @@
 
 // The pair, letter x: a shelf made over two shelves. Its rules are the first's and then the second's, with numbers continued,
 // each with the letter of the shelf that holds it.
-ghost use Rattle.std.specs.Prelude.{◌≡◌, []};
-ghost use Rattle.pair.specs.Pairs.{Joined, pair_rules};
+ghost use Rattle.std.specs.Prelude.{◌≡◌, [], ◌++◌, length, nat_lt};
+ghost use Rattle.pair.specs.Pairs.{pair_rules};
+ghost use Rattle.pair.specs.Laws.{pair_few, pair_lawful};
 
 use literals::Refusal;
 use rules::Verdict;
@@ -14,26 +15,24 @@ const MOST: usize = 1024;
 
 // Both shelves are told the same. `split` is how many rules the first has, and `shut` says that there are too many in all.
 #[derive(Drop)]
-pub struct Pair<A, B> {
+pub struct Pair<A: Shelf, B: Shelf> {
     first: A,
     second: B,
     split: usize,
     shut: bool,
+    ghost same: { A.Shelf.told first ≡ B.Shelf.told second },
+    ghost splits: { split ≡ length (A.Shelf.rules first) },
+    ghost over: { shut ≡ nat_lt 1024 (length (A.Shelf.rules first ++ B.Shelf.rules second)) },
 }
 
 impl<A: Shelf, B: Shelf> Pair<A, B> {
     // Takes back all that either shelf was told.
     pub fn join(mut first: A, mut second: B) -> Pair<A, B>
-        requires first { A.Shelf.sound first }
-        requires second { B.Shelf.sound second }
-        ensures sound { Joined (A.Shelf.sound result.first) (B.Shelf.sound result.second) (A.Shelf.rules result.first) (B.Shelf.rules result.second) (A.Shelf.told result.first) (B.Shelf.told result.second) result.split result.shut }
         ensures rules { pair_rules (A.Shelf.rules result.first) (B.Shelf.rules result.second) ≡ pair_rules (A.Shelf.rules first) (B.Shelf.rules second) }
         ensures told { A.Shelf.told result.first ≡ [] }
     {
         let _ = first.take_back(0);
         let _ = second.take_back(0);
-        first.laws();
-        second.laws();
         let split = first.rule_count();
         let shut = split + second.rule_count() > MOST;
         Pair {
@@ -50,16 +49,15 @@ impl<A: Shelf, B: Shelf> Shelf for Pair<A, B> {
 
     const LETTER: Letter<120> = Letter { letter: 'x' };
 
-    ghost sound = { λ p. Joined (A.Shelf.sound p.first) (B.Shelf.sound p.second) (A.Shelf.rules p.first) (B.Shelf.rules p.second) (A.Shelf.told p.first) (B.Shelf.told p.second) p.split p.shut };
-
     ghost rules = { λ p. pair_rules (A.Shelf.rules p.first) (B.Shelf.rules p.second) };
 
     ghost told = { λ p. A.Shelf.told p.first };
 
-    fn laws(&self) {
-        self.first.laws();
-        self.second.laws();
-    }
+    ghost few = { λ p. pair_few (A.Shelf.rules p.first) (B.Shelf.rules p.second) };
+
+    ghost lawful = { λ p. pair_lawful (A.Shelf.rules p.first) (B.Shelf.rules p.second) (A.Shelf.lawful p.first) (B.Shelf.lawful p.second) };
+
+    ghost once = { λ p. A.Shelf.once p.first };
 
     fn tell(&mut self, n: i16) -> Result<(), Refusal> {
         match self.first.tell(n) {
