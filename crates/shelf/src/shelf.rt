@@ -10,11 +10,15 @@ use crate::lettered::Lettered;
 use literals::Refusal;
 use rules::Verdict;
 
+// A shelf made over more rules fails shut: it counts as one rule that every set breaks.
+pub const MOST_RULES: usize = 1024;
+
 // A shelf keeps rules, numbered from 1, and the literals it was told, in order. Asked, it answers as a scan of all its rules
 // would, whatever it does to spare itself the scan. No call changes the rules, and a refused call changes nothing. It owes
 // three laws: it has at most 1,024 rules, each has the laws of a rule, and no switch is told twice.
 pub trait Shelf {
-    // The letter of the kind: `LETTER.letter()` is `Letter.Lettered.code` to contracts.
+    // The letter of the kind: `LETTER.letter()` is `Letter.Lettered.code` to contracts. Its type carries the code because a ghost
+    // constant beside a `const LETTER: char` is refused where the kind borrows, as `Plain` does.
     type Letter: Lettered;
 
     const LETTER: Self::Letter;
@@ -44,6 +48,26 @@ pub trait Shelf {
 
     fn told_count(&self) -> usize
         ensures { result ≡ length (told self.now) };
+
+    // There is such a rule; refused by 13.
+    fn check_rule(&self, rule: usize) -> Result<(), Refusal>
+        ensures { refusal_of result ≡ first_failed (letter_checks (rules self.now) rule) }
+    {
+        if rule < 1 || rule > self.rule_count() {
+            return Err(Refusal::NoSuchPlace);
+        }
+        Ok(())
+    }
+
+    // There is such a switch, and such a rule; refused by 1 or 13.
+    fn check_mention(&self, rule: usize, switch: u8) -> Result<(), Refusal>
+        ensures { refusal_of result ≡ first_failed (mention_checks (rules self.now) rule switch) }
+    {
+        if switch < 1 || switch > 64 {
+            return Err(Refusal::OutOfRange);
+        }
+        self.check_rule(rule)
+    }
 
     // Whether a rule mentions a switch; refused by 1 or 13.
     fn mentions(&self, rule: usize, switch: u8) -> Result<bool, Refusal>
