@@ -37,14 +37,6 @@ pub both_tell : (E : Type 0) (r : Result (Unit {0}) Refusal) (ts us us' : List L
 both_tell E (Ok _) ts us us' n e p q h = h
 both_tell E (Err x) ts us us' n e p q h = let f = ap (λ (xs : List Literal). first_failed (tell_checks xs n)) e in let z : ◌≡◌ {A = ℕ} 0 1 = cc in absurd (omega arith)
 
-pub tell_refused : (r : Result (Unit {0}) Refusal) (ts us : List Literal) (m n : ℤ) → m ≡ n → ts ≡ us → refusal_of r ≡ first_failed (tell_checks us m) → refusal_of r ≡ first_failed (tell_checks ts n)
-tell_refused r ts us m n e f q = q ∙ ap (λ (xs : List Literal). first_failed (tell_checks xs m)) (sym f) ∙ ap (λ (k : ℤ). first_failed (tell_checks ts k)) e
-
-pub tell_told : (F : Type 0) (r : Result (Unit {0}) Refusal) (ts us ts' : List Literal) (m n : ℤ) → m ≡ n → ts ≡ us → None ≡ first_failed (tell_checks ts m) → refusal_of r ≡ first_failed (tell_checks us m)
-    → Appended ts m ts' → MatchResult r (λ _. Appended ts n ts') (λ _. F)
-tell_told F (Ok _) ts us ts' m n e f p q h = subst (λ (k : ℤ). Appended ts k ts') e h
-tell_told F (Err x) ts us ts' m n e f p q h = let g = ap (λ (xs : List Literal). first_failed (tell_checks xs m)) f in let z : ◌≡◌ {A = ℕ} 0 1 = cc in absurd (omega arith)
-
 -- ---- what a refused call leaves
 
 -- a value made again of what it was made of, and of what can be proved in one way only, is that value
