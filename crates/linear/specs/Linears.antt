@@ -5,7 +5,8 @@
 --   at_most_checks    or of an at-most bound
 --   rule_broken       the sets that break it
 --   rule_mentions     the switches that it mentions
-use Rattle.std.specs.Prelude.{ℕ, Bool, not, ◌||◌, List, [], ◌∷◌, ◌++◌, length, take, ℤ, sum, ◌==◌, nat_le, nat_lt}
+use Rattle.std.specs.Prelude.{ℕ, Bool, not, ◌||◌, List, [], ◌∷◌, ◌++◌, length, ℤ, sum, ◌==◌, nat_le, nat_lt}
+use Rattle.bounded.specs.Held.{held}
 use Rattle.literals.specs.declared.refusal.Refusal.TheVariants.{OutOfRange, TermCount, Weight, SwitchTwice, Degree}
 use Rattle.literals.specs.declared.setting.Setting.{Setting}
 use Rattle.literals.specs.Refusals.{Check, check}
@@ -16,7 +17,7 @@ use Rattle.linear.specs.Terms.{literals, bad_weights}
 use Rattle.linear.specs.Slacks.{broken}
 
 abbrev pub terms_of : Linear → List Term
-terms_of r = take r.len r.terms
+terms_of r = held r.terms
 
 -- no terms, more than 16, or two lists of unequal length
 abbrev pub wrong_count : List ℕ → List ℤ → Bool

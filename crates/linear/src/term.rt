@@ -5,7 +5,7 @@ ghost use Rattle.linear.specs.Terms.{counts};
 use literals::{Literal, Setting};
 
 // What a literal weighs in a linear rule.
-#[derive(Clone, Copy)]
+#[derive(Clone, Copy, Debug, PartialEq, Eq, Hash)]
 pub struct Term {
     pub weight: u16,
     pub literal: Literal,

@@ -1,9 +1,8 @@
 -- What a pair of shelves means, by what its two shelves mean.
 --   pair_letter   the letter x
 --   pair_rules    the rules of a pair
---   Joined        when a pair is sound
-use Rattle.std.specs.Prelude.{◌≡◌, ℕ, Bool, List, ◌++◌, length, nat_lt}
-use Rattle.literals.specs.declared.literal.Literal.{Literal}
+--   split_of      where its second shelf's rules begin
+use Rattle.std.specs.Prelude.{ℕ, cond, List, ◌++◌, length, Option, None, Some, nat_lt}
 use Rattle.shelf.specs.Meanings.{Meaning, capped}
 
 abbrev pub pair_letter : ℕ
@@ -13,10 +12,6 @@ pair_letter = 120
 abbrev pub pair_rules : List Meaning → List Meaning → List Meaning
 pair_rules firsts seconds = capped pair_letter (firsts ++ seconds)
 
--- both shelves are sound and were told the same, and the pair knows how many rules the first has and whether there are too many
-pub record Joined (first_sound second_sound : Type 0) (firsts seconds : List Meaning) (first_told second_told : List Literal) (split : ℕ) (shut : Bool) : Type 0 where
-  pub first : first_sound
-  pub second : second_sound
-  pub same : first_told ≡ second_told
-  pub splits : split ≡ length firsts
-  pub over : shut ≡ nat_lt 1024 (length (firsts ++ seconds))
+-- how many rules the first has, where there are not too many in all
+abbrev pub split_of : List Meaning → List Meaning → Option ℕ
+split_of firsts seconds = cond (nat_lt 1024 (length (firsts ++ seconds))) None (Some (length firsts))

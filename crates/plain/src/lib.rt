@@ -3,15 +3,13 @@
 // The plain shelf, letter p: the caller's records of any kind of rule, scanned at every question.
 ghost use Rattle.std.specs.Prelude.{◌≡◌, []};
 ghost use Rattle.plain.specs.Plains.{plain_rules};
+ghost use Rattle.plain.specs.Laws.{plain_few, plain_lawful};
 ghost use Rattle.told.specs.Lists.{told_of};
 
 use literals::Refusal;
 use rules::{Rule, Verdict, scan};
-use shelf::{Letter, Lettered, Shelf};
+use shelf::{Letter, Lettered, MOST_RULES, Shelf};
 use told::Told;
-
-// A shelf over more records fails shut.
-const MOST: usize = 1024;
 
 // Borrows the records for reading.
 #[derive(Drop)]
@@ -37,13 +35,15 @@ impl<'a, R: Rule> Shelf for Plain<'a, R> {
 
     const LETTER: Letter<112> = Letter { letter: 'p' };
 
-    ghost sound = { λ _. Unit {0} };
-
     ghost rules = { λ p. plain_rules R.Rule.breaks R.Rule.mentions p.records.now };
 
     ghost told = { λ p. told_of p.told };
 
-    fn laws(&self) {}
+    ghost few = { λ p. plain_few R.Rule.breaks R.Rule.mentions p.records.now };
+
+    ghost lawful = { λ p. plain_lawful R.Rule.breaks R.Rule.mentions p.records.now R.Rule.grows R.Rule.ignores };
+
+    ghost once = { λ p. p.told.once };
 
     fn tell(&mut self, n: i16) -> Result<(), Refusal> {
         self.told.tell(n)
@@ -54,14 +54,14 @@ impl<'a, R: Rule> Shelf for Plain<'a, R> {
     }
 
     fn ask(&self) -> Verdict {
-        if self.records.len() > MOST {
+        if self.records.len() > MOST_RULES {
             return Verdict::Broken(1);
         }
         scan(self.records, self.told.set())
     }
 
     fn rule_count(&self) -> usize {
-        if self.records.len() > MOST {
+        if self.records.len() > MOST_RULES {
             1
         } else {
             self.records.len()
@@ -73,22 +73,15 @@ impl<'a, R: Rule> Shelf for Plain<'a, R> {
     }
 
     fn mentions(&self, rule: usize, switch: u8) -> Result<bool, Refusal> {
-        if switch < 1 || switch > 64 {
-            return Err(Refusal::OutOfRange);
-        }
-        if rule < 1 || rule > self.rule_count() {
-            return Err(Refusal::NoSuchPlace);
-        }
-        if self.records.len() > MOST {
+        self.check_mention(rule, switch)?;
+        if self.records.len() > MOST_RULES {
             return Ok(false);
         }
         Ok(self.records[rule - 1].mentions_switch(switch))
     }
 
     fn letter_of(&self, rule: usize) -> Result<char, Refusal> {
-        if rule < 1 || rule > self.rule_count() {
-            return Err(Refusal::NoSuchPlace);
-        }
+        self.check_rule(rule)?;
         Ok(Self::LETTER.letter())
     }
 }

@@ -7,4 +7,4 @@ mod shelf;
 
 pub use letter::Letter;
 pub use lettered::Lettered;
-pub use shelf::Shelf;
+pub use shelf::{MOST_RULES, Shelf};

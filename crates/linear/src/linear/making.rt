@@ -7,6 +7,7 @@ ghost use Rattle.literals.specs.Refusals.{first_failed, refusal_of};
 
 use crate::linear::Linear;
 use crate::term::Term;
+use bounded::Bounded;
 use lists::{Literals, switch_twice};
 use literals::{Literal, Refusal};
 
@@ -49,11 +50,7 @@ fn total(weights: &[u16]) -> u32
     ensures sum { result ≡ sum weights.now }
     ensures few { result ≤ 1048560 }
 {
-    let mut total = 0;
-    for w in weights {
-        total += u32::from(*w);
-    }
-    total
+    weights.iter().map(|w| u32::from(*w)).sum()
 }
 
 // The rule of these weights and literals, which have passed their checks.
@@ -73,18 +70,15 @@ fn assembled(weights: &[u16], literals: &[Literal], degree: u32) -> Linear
         weight: 0,
         literal: Literal::FIRST,
     };
-    let mut terms = [none; 16];
-    for i in 0..weights.len() {
-        terms[i] = Term {
-            weight: weights[i],
-            literal: literals[i],
-        };
+    let mut terms = Bounded::new(none);
+    for (weight, literal) in weights.iter().zip(literals) {
+        // There is room for as many as a list of literals has.
+        let _ = terms.push(Term {
+            weight: *weight,
+            literal: *literal,
+        });
     }
-    Linear {
-        terms,
-        len: weights.len(),
-        degree,
-    }
+    Linear { terms, degree }
 }
 
 impl Linear {

@@ -1,11 +1,19 @@
 ghost use Rattle.std.specs.Prelude.{◌≡◌, ◌≤◌, length};
 ghost use Rattle.linear.specs.Linears.{terms_of};
 ghost use Rattle.linear.specs.Slacks.{FirstAbove, slack};
-ghost use Rattle.linear.specs.Terms.{weight_of};
+ghost use Rattle.linear.specs.Terms.{counted, weight_of};
 
 use crate::linear::Linear;
 use crate::term::Term;
 use literals::{Literal, Setting};
+
+// The weights of the terms whose literal is not false.
+fn counted(terms: &[Term], set: &Setting) -> u32
+    requires { length terms.now ≤ 16 }
+    ensures sum { result ≡ counted set.now terms.now }
+{
+    terms.iter().map(|t| u32::from(t.counts(set))).sum()
+}
 
 impl Linear {
     pub fn terms(&self) -> &[Term]
@@ -13,7 +21,7 @@ impl Linear {
         ensures some { 1 ≤ length result.now }
         ensures few { length result.now ≤ 16 }
     {
-        &self.terms[0..self.len]
+        self.terms.as_slice()
     }
 
     pub fn degree(&self) -> u32
@@ -26,11 +34,7 @@ impl Linear {
     pub fn slack(&self, set: &Setting) -> i64
         ensures { result ≡ slack (terms_of self.now) self.now.degree set.now }
     {
-        let mut slack = -i64::from(self.degree);
-        for t in self.terms() {
-            slack += i64::from(t.counts(set));
-        }
-        slack
+        i64::from(counted(self.terms(), set)) - i64::from(self.degree)
     }
 
     // Of the free literals whose weight is above the number, the one of the lowest switch; none where the number is below 0.
@@ -40,22 +44,18 @@ impl Linear {
         if number < 0 {
             return None;
         }
-        let mut best = None;
-        for t in self.terms() {
-            best = t.improve(set, number, best);
-        }
-        best
+        self.terms()
+            .iter()
+            .fold(None, |best, t| t.improve(set, number, best))
     }
 
     // What the literal weighs in the rule, 0 where the rule has it not.
     pub fn weight(&self, l: Literal) -> u16
         ensures { result ≡ weight_of (terms_of self.now) l }
     {
-        for t in self.terms() {
-            if t.literal.is_same(l) {
-                return t.weight;
-            }
-        }
-        0
+        self.terms()
+            .iter()
+            .find(|t| t.literal == l)
+            .map_or(0, |t| t.weight)
     }
 }

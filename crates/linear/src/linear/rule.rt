@@ -22,11 +22,7 @@ impl Rule for Linear {
     }
 
     fn mentions_switch(&self, switch: u8) -> bool {
-        let mut found = false;
-        for t in self.terms() {
-            found = found | (t.literal.switch() == switch);
-        }
-        found
+        self.terms().iter().any(|t| t.literal.switch() == switch)
     }
 
     // What it is for every kind of rule comes for a linear rule to this: the slack is not below 0, the switch is free and

@@ -1,64 +1,65 @@
-use Rattle.std.proofs.Common.{arith}
-use Rattle.rules.specs.declared.Verdict.TheVariants.{Quiet, Broken, Forced}
+use Rattle.std.proofs.Common.{◌≡◌, None, Some, sym, ◌∙◌, arith}
 use Rattle.literals.specs.Settings.{set_of}
+use Rattle.rules.specs.declared.Verdict.TheVariants.{Quiet, Broken, Forced}
 use Rattle.rules.proofs.Numbers.{numbered_high}
-use Rattle.pair.proofs.Joining.{shut_answer, open_few, first_broken, first_forced, second}
+use Rattle.pair.specs.Pairs.{split_of}
+use Rattle.pair.proofs.Joining.{shut_answer, first_answers, second_answers, sum_few}
 use Rattle.pair.proofs.PairShelf.ask.Goals as goal
 
-pub returns-then-self : goal.returns-then-self
-returns-then-self g c =
+pub returns-in_default : goal.returns-in_default
+returns-in_default g c =
     let p = c.args.self.now in
-    shut_answer (g.A.Shelf.rules p.first) (g.B.Shelf.rules p.second) p.split p.shut c.requires.splits c.requires.over c.if-self.true (set_of (g.A.Shelf.told p.first))
+    let xs = g.A.Shelf.rules p.first in
+    let ys = g.B.Shelf.rules p.second in
+    let e : None ≡ split_of xs ys = sym c.in_default.is ∙ p.splits in
+    shut_answer xs ys e (set_of (g.A.Shelf.told p.first))
 
 pub overflow_add-result : goal.overflow_add-result
 overflow_add-result g c =
     let p = c.args.self.now in
     let xs = g.A.Shelf.rules p.first in
     let ys = g.B.Shelf.rules p.second in
-    let f = open_few xs ys p.split p.shut c.requires.splits c.requires.over c.if-self.false in
-    let k = numbered_high c.in-Broken-ask.ensures.numbered in
-    omega (arith, f, k)
+    let e : Some c.in-Some.split ≡ split_of xs ys = sym c.in-Some.is ∙ p.splits in
+    let few = sum_few xs ys c.in-Some.split e c.in-Broken.r (numbered_high c.in-Broken.ensures.numbered) in
+    omega (arith, few)
 
-pub overflow_add-result-in-Forced-ask : goal.overflow_add-result-in-Forced-ask
-overflow_add-result-in-Forced-ask g c =
+pub overflow_add-result-in-Forced : goal.overflow_add-result-in-Forced
+overflow_add-result-in-Forced g c =
     let p = c.args.self.now in
     let xs = g.A.Shelf.rules p.first in
     let ys = g.B.Shelf.rules p.second in
-    let f = open_few xs ys p.split p.shut c.requires.splits c.requires.over c.if-self.false in
-    let k = numbered_high c.in-Forced-ask.ensures.numbered in
-    omega (arith, f, k)
-
-pub returns-in-Broken : goal.returns-in-Broken
-returns-in-Broken g c =
-    let p = c.args.self.now in
-    let xs = g.A.Shelf.rules p.first in
-    let ys = g.B.Shelf.rules p.second in
-    first_broken xs ys p.split p.shut c.requires.splits c.requires.over c.if-self.false (set_of (g.A.Shelf.told p.first)) c.in-Broken.r c.in-Broken.ensures
-
-pub returns-in-Forced : goal.returns-in-Forced
-returns-in-Forced g c =
-    let p = c.args.self.now in
-    let xs = g.A.Shelf.rules p.first in
-    let ys = g.B.Shelf.rules p.second in
-    first_forced xs ys p.split p.shut c.requires.splits c.requires.over c.if-self.false (set_of (g.A.Shelf.told p.first)) c.in-Forced.r c.in-Forced.l c.in-Forced.ensures
-
-pub returns-in-Broken-ask : goal.returns-in-Broken-ask
-returns-in-Broken-ask g c =
-    let p = c.args.self.now in
-    let xs = g.A.Shelf.rules p.first in
-    let ys = g.B.Shelf.rules p.second in
-    second xs ys p.split p.shut c.requires.splits c.requires.over c.if-self.false (g.A.Shelf.told p.first) (g.B.Shelf.told p.second) (Broken c.in-Broken-ask.r) c.requires.same c.in-Quiet.ensures c.in-Broken-ask.ensures
-
-pub returns-in-Forced-ask : goal.returns-in-Forced-ask
-returns-in-Forced-ask g c =
-    let p = c.args.self.now in
-    let xs = g.A.Shelf.rules p.first in
-    let ys = g.B.Shelf.rules p.second in
-    second xs ys p.split p.shut c.requires.splits c.requires.over c.if-self.false (g.A.Shelf.told p.first) (g.B.Shelf.told p.second) (Forced c.in-Forced-ask.r c.in-Forced-ask.l) c.requires.same c.in-Quiet.ensures c.in-Forced-ask.ensures
+    let e : Some c.in-Some.split ≡ split_of xs ys = sym c.in-Some.is ∙ p.splits in
+    let few = sum_few xs ys c.in-Some.split e c.in-Forced.r (numbered_high c.in-Forced.ensures.numbered) in
+    omega (arith, few)
 
 pub returns-in-Quiet-ask : goal.returns-in-Quiet-ask
 returns-in-Quiet-ask g c =
     let p = c.args.self.now in
     let xs = g.A.Shelf.rules p.first in
     let ys = g.B.Shelf.rules p.second in
-    second xs ys p.split p.shut c.requires.splits c.requires.over c.if-self.false (g.A.Shelf.told p.first) (g.B.Shelf.told p.second) Quiet c.requires.same c.in-Quiet.ensures c.in-Quiet-ask.ensures
+    let e : Some c.in-Some.split ≡ split_of xs ys = sym c.in-Some.is ∙ p.splits in
+    second_answers xs ys c.in-Some.split e (g.A.Shelf.told p.first) (g.B.Shelf.told p.second) Quiet p.same c.in-Quiet.ensures c.in-Quiet-ask.ensures
+
+pub returns-in-Broken : goal.returns-in-Broken
+returns-in-Broken g c =
+    let p = c.args.self.now in
+    let xs = g.A.Shelf.rules p.first in
+    let ys = g.B.Shelf.rules p.second in
+    let e : Some c.in-Some.split ≡ split_of xs ys = sym c.in-Some.is ∙ p.splits in
+    second_answers xs ys c.in-Some.split e (g.A.Shelf.told p.first) (g.B.Shelf.told p.second) (Broken c.in-Broken.r) p.same c.in-Quiet.ensures c.in-Broken.ensures
+
+pub returns-in-Forced : goal.returns-in-Forced
+returns-in-Forced g c =
+    let p = c.args.self.now in
+    let xs = g.A.Shelf.rules p.first in
+    let ys = g.B.Shelf.rules p.second in
+    let e : Some c.in-Some.split ≡ split_of xs ys = sym c.in-Some.is ∙ p.splits in
+    second_answers xs ys c.in-Some.split e (g.A.Shelf.told p.first) (g.B.Shelf.told p.second) (Forced c.in-Forced.r c.in-Forced.l) p.same c.in-Quiet.ensures c.in-Forced.ensures
+
+pub returns-in_default-ask : goal.returns-in_default-ask
+returns-in_default-ask g c =
+    let p = c.args.self.now in
+    let xs = g.A.Shelf.rules p.first in
+    let ys = g.B.Shelf.rules p.second in
+    let e : Some c.in-Some.split ≡ split_of xs ys = sym c.in-Some.is ∙ p.splits in
+    first_answers xs ys c.in-Some.split e (set_of (g.A.Shelf.told p.first)) c.ask.result c.in_default-ask.not-Quiet c.ask.ensures

@@ -1,35 +1,29 @@
-use Rattle.std.proofs.Common.{◌≡◌, ◌∙◌}
-use Rattle.pair.proofs.Joining.{shut_of, shut_letter, letter_left, letter_right, is_left, is_right}
+use Rattle.std.proofs.Common.{◌≡◌, None, Some, sym, ◌∙◌}
+use Rattle.shelf.proofs.Caps.{rule_there}
+use Rattle.pair.specs.Pairs.{pair_rules, split_of}
+use Rattle.pair.proofs.Joining.{is_first, is_second, shut_of}
 use Rattle.pair.proofs.PairShelf.letter_of.Goals as goal
 
-pub returns-then-rule-eq1 : goal.returns-then-rule-eq1
-returns-then-rule-eq1 g c =
+pub returns-in-Some-clause-is : goal.returns-in-Some-clause-is
+returns-in-Some-clause-is g c =
     let p = c.args.self.now in
     let xs = g.A.Shelf.rules p.first in
     let ys = g.B.Shelf.rules p.second in
-    record {
-      refused = shut_letter xs ys p.split p.shut c.requires.splits c.requires.over c.if-self.true c.args.rule c.if-rule-eq1.true;
-      is = shut_of xs ys p.split p.shut c.requires.splits c.requires.over c.if-self.true c.args.rule _ c.if-rule-eq1.true c.letter.ensures;
-    }
+    let e : Some c.in-Some.split ≡ split_of xs ys = sym c.in-Some.is ∙ p.splits in
+    is_second xs ys c.in-Some.split e c.letter_of.result (λ x m. x ≡ m.letter) c.args.rule c.if-rule-split.true c.letter_of.ensures.is
 
-pub returns-then-rule-self : goal.returns-then-rule-self
-returns-then-rule-self g c =
+pub returns-in-Some-2-clause-is : goal.returns-in-Some-2-clause-is
+returns-in-Some-2-clause-is g c =
     let p = c.args.self.now in
     let xs = g.A.Shelf.rules p.first in
     let ys = g.B.Shelf.rules p.second in
-    let a = c.letter_of.ensures in
-    record {
-      refused = a.refused ∙ letter_left xs ys p.split p.shut c.requires.splits c.requires.over c.args.rule c.if-self.false c.if-rule-self.true;
-      is = is_left xs ys p.split p.shut c.requires.splits c.requires.over c.args.rule c.if-self.false c.letter_of.result (λ x m. x ≡ m.letter) a.is;
-    }
+    let e : Some c.in-Some-2.field-0 ≡ split_of xs ys = sym c.in-Some-2.is ∙ p.splits in
+    is_first xs ys c.in-Some-2.field-0 e c.letter_of-in-Some-2.result (λ x m. x ≡ m.letter) c.args.rule c.letter_of-in-Some-2.ensures.is
 
-pub returns-else-rule-self : goal.returns-else-rule-self
-returns-else-rule-self g c =
+pub returns-in_ok-check_rule-in-None-clause-is : goal.returns-in_ok-check_rule-in-None-clause-is
+returns-in_ok-check_rule-in-None-clause-is g c =
     let p = c.args.self.now in
     let xs = g.A.Shelf.rules p.first in
     let ys = g.B.Shelf.rules p.second in
-    let a = c.letter_of-else-rule-self.ensures in
-    record {
-      refused = a.refused ∙ letter_right xs ys p.split p.shut c.requires.splits c.requires.over c.args.rule c.if-self.false c.if-rule-self.false;
-      is = is_right xs ys p.split p.shut c.requires.splits c.requires.over c.args.rule c.if-self.false c.letter_of-else-rule-self.result (λ x m. x ≡ m.letter) c.if-rule-self.false a.is;
-    }
+    let e : None ≡ split_of xs ys = sym c.in-None.is ∙ p.splits in
+    shut_of xs ys e c.args.rule (λ m. c.letter.result ≡ m.letter) c.letter.ensures (rule_there (pair_rules xs ys) c.args.rule c.in_ok-check_rule-in-None.ensures)

@@ -1,35 +1,29 @@
-use Rattle.std.proofs.Common.{◌≡◌, refl, ◌∙◌}
-use Rattle.pair.proofs.Joining.{shut_of, shut_mention, mention_left, mention_right, is_left, is_right}
+use Rattle.std.proofs.Common.{◌≡◌, false, None, Some, sym, refl, ◌∙◌}
+use Rattle.shelf.proofs.Caps.{mentioned_there}
+use Rattle.pair.specs.Pairs.{pair_rules, split_of}
+use Rattle.pair.proofs.Joining.{is_first, is_second, shut_of}
 use Rattle.pair.proofs.PairShelf.mentions.Goals as goal
 
-pub returns-then-self : goal.returns-then-self
-returns-then-self g c =
+pub returns-in-Some-clause-is : goal.returns-in-Some-clause-is
+returns-in-Some-clause-is g c =
     let p = c.args.self.now in
     let xs = g.A.Shelf.rules p.first in
     let ys = g.B.Shelf.rules p.second in
-    record {
-      refused = shut_mention xs ys p.split p.shut c.requires.splits c.requires.over c.if-self.true c.args.rule c.args.switch c.if-switch-lt1.false c.if-switch-gt64.false c.if-rule-ne1.false;
-      is = shut_of xs ys p.split p.shut c.requires.splits c.requires.over c.if-self.true c.args.rule _ c.if-rule-ne1.false refl;
-    }
+    let e : Some c.in-Some.split ≡ split_of xs ys = sym c.in-Some.is ∙ p.splits in
+    is_second xs ys c.in-Some.split e c.mentions.result (λ x m. x ≡ m.mentions c.args.switch) c.args.rule c.if-rule-split.true c.mentions.ensures.is
 
-pub returns-then-rule-self : goal.returns-then-rule-self
-returns-then-rule-self g c =
+pub returns-in-Some-2-clause-is : goal.returns-in-Some-2-clause-is
+returns-in-Some-2-clause-is g c =
     let p = c.args.self.now in
     let xs = g.A.Shelf.rules p.first in
     let ys = g.B.Shelf.rules p.second in
-    let a = c.mentions.ensures in
-    record {
-      refused = a.refused ∙ mention_left xs ys p.split p.shut c.requires.splits c.requires.over c.args.rule c.if-self.false c.args.switch c.if-rule-self.true;
-      is = is_left xs ys p.split p.shut c.requires.splits c.requires.over c.args.rule c.if-self.false c.mentions.result (λ x m. x ≡ m.mentions c.args.switch) a.is;
-    }
+    let e : Some c.in-Some-2.field-0 ≡ split_of xs ys = sym c.in-Some-2.is ∙ p.splits in
+    is_first xs ys c.in-Some-2.field-0 e c.mentions-in-Some-2.result (λ x m. x ≡ m.mentions c.args.switch) c.args.rule c.mentions-in-Some-2.ensures.is
 
-pub returns-else-rule-self : goal.returns-else-rule-self
-returns-else-rule-self g c =
+pub returns-in_ok-check_mention-in-None-clause-is : goal.returns-in_ok-check_mention-in-None-clause-is
+returns-in_ok-check_mention-in-None-clause-is g c =
     let p = c.args.self.now in
     let xs = g.A.Shelf.rules p.first in
     let ys = g.B.Shelf.rules p.second in
-    let a = c.mentions-else-rule-self.ensures in
-    record {
-      refused = a.refused ∙ mention_right xs ys p.split p.shut c.requires.splits c.requires.over c.args.rule c.if-self.false c.args.switch c.if-rule-self.false;
-      is = is_right xs ys p.split p.shut c.requires.splits c.requires.over c.args.rule c.if-self.false c.mentions-else-rule-self.result (λ x m. x ≡ m.mentions c.args.switch) c.if-rule-self.false a.is;
-    }
+    let e : None ≡ split_of xs ys = sym c.in-None.is ∙ p.splits in
+    shut_of xs ys e c.args.rule (λ m. false ≡ m.mentions c.args.switch) refl (mentioned_there (pair_rules xs ys) c.args.rule c.args.switch c.in_ok-check_mention-in-None.ensures)

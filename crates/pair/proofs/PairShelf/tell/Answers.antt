@@ -1,30 +1,28 @@
-use Rattle.std.proofs.Common.{◌≡◌, length, ℤ, sym, ap, ◌∙◌, w16, to_z, of_z, rules}
-use Rattle.pair.proofs.Joining.{both_tell, same_told, tell_refused, tell_told, joined_rules, joined_kept}
+use Rattle.std.proofs.Common.{ℤ, ◌∙◌, w16, to_z, of_z}
+use Rattle.std.proofs.lemmas.Result.{MatchResult-from_err}
+use Rattle.pair.proofs.Joining.{both_tell, same_told, split_same, kept}
 use Rattle.pair.proofs.PairShelf.tell.Goals as goal
 
-pub returns-in-Ok : goal.returns-in-Ok
-returns-in-Ok g c =
+pub returns-in_err-tell-clause-told : goal.returns-in_err-tell-clause-told
+returns-in_err-tell-clause-told g c =
     let a = g.A.Shelf in
     let b = g.B.Shelf in
     let p = c.args.self.now in
-    let p' = c.tell.new.self in
-    let q' = c.tell-in-Ok.new.self in
+    MatchResult-from_err c.from_residual.result _ _ c.from_residual.ensures.0
+    (λ x.
+    kept a.told a.rules (b.told p.second) (b.rules p.second) p.split (λ first h. record { first = first; second = p.second; split = p.split; same = h.0; splits = h.1 })
+    c.in_err-tell.ensures.told _ (p.same, p.splits))
+
+pub invariant_of-self-2 : goal.invariant_of-self-2
+invariant_of-self-2 g c =
+    let a = g.A.Shelf in
+    let b = g.B.Shelf in
+    let p = c.args.self.now in
     let m : ℤ = to_z w16 (of_z w16 c.args.n) in
-    let e : m ≡ c.args.n = search rules in
-    let r = c.tell-in-Ok.result in
-    let one = c.in-Ok.ensures in
-    let two = c.tell-in-Ok.ensures in
-    let both = both_tell _ r (a.told p.first) (b.told p.second) (b.told q') m c.requires.same one.refused two.refused two.told in
+    let one = c.in_ok-tell.ensures in
+    let two = c.tell-2.ensures in
+    let both = both_tell _ c.tell-2.result (a.told p.first) (b.told p.second) (b.told c.tell-2.new.self) m p.same one.refused two.refused two.told in
     record {
-      sound =
-          record {
-            first = one.sound;
-            second = two.sound;
-            same = same_told (a.told p.first) (b.told p.second) (a.told p') (b.told q') m c.requires.same one.told both;
-            splits = c.requires.splits ∙ ap length (sym one.rules);
-            over = joined_kept (a.rules p.first) (b.rules p.second) (a.rules p') (b.rules q') p.shut one.rules two.rules c.requires.over;
-          };
-      rules = joined_rules (a.rules p') (b.rules q') (a.rules p.first) (b.rules p.second) one.rules two.rules;
-      refused = tell_refused r (a.told p.first) (b.told p.second) m c.args.n e c.requires.same two.refused;
-      told = tell_told _ r (a.told p.first) (b.told p.second) (a.told p') m c.args.n e c.requires.same one.refused two.refused one.told;
+      same = same_told (a.told p.first) (b.told p.second) (a.told c.tell.new.self) (b.told c.tell-2.new.self) m p.same one.told both;
+      splits = p.splits ∙ split_same (a.rules p.first) (b.rules p.second) _ _ one.rules two.rules;
     }

@@ -5,12 +5,12 @@ use Rattle.plain.specs.Plains.{plain_rules}
 use Rattle.plain.proofs.Limits.{answers_over, answers_under}
 use Rattle.plain.proofs.PlainShelf.ask.Goals as goal
 
-pub returns-then-self-gt-MOST : goal.returns-then-self-gt-MOST
-returns-then-self-gt-MOST g c = answers_over g.R.Rule.breaks g.R.Rule.mentions c.args.self.now.records.now _ c.if-self-gt-MOST.true
+pub returns-then-self-gt-MOST_RULES : goal.returns-then-self-gt-MOST_RULES
+returns-then-self-gt-MOST_RULES g c = answers_over g.R.Rule.breaks g.R.Rule.mentions c.args.self.now.records.now _ c.if-self-gt-MOST_RULES.true
 
 pub returns : goal.returns
 returns g c =
     let rs = c.args.self.now.records.now in
     let m = g.R.Rule in
     subst (λ (s : Setting). Answers (plain_rules m.breaks m.mentions rs) s c.scan.result) c.set.ensures
-    (answers_under m.breaks m.mentions rs c.set.result.now c.scan.result c.if-self-gt-MOST.false c.scan.ensures)
+    (answers_under m.breaks m.mentions rs c.set.result.now c.scan.result c.if-self-gt-MOST_RULES.false c.scan.ensures)

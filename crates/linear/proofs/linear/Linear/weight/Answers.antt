@@ -1,19 +1,18 @@
-use Rattle.std.proofs.Common.{◌≡◌, true, List, sym, ap, ◌∙◌, subst, take_all}
-use Rattle.lists.specs.Lists.{distinct}
+use Rattle.std.proofs.Common.{◌≡◌, Option, option_map, unwrap_or, ap, ℕ, ◌∙◌, rules}
+use Rattle.std.proofs.lemmas.Iterator.{YieldsList-from_slice}
+use Rattle.std.proofs.lemmas.Iterator.Search.{find_from_yields_List}
+use Rattle.literals.specs.Literals.{same}
 use Rattle.linear.specs.declared.term.Term.{Term}
-use Rattle.linear.specs.Terms.{literals, weight_of}
-use Rattle.linear.proofs.Weights.{none_more, weight_found}
+use Rattle.linear.specs.Linears.{terms_of}
+use Rattle.linear.proofs.Weights.{found_weighs, fused}
 use Rattle.linear.proofs.linear.Linear.weight.Goals as goal
 
-pub returns-then-is_same : goal.returns-then-is_same
-returns-then-is_same c =
-    let e = c.terms-t-items.ensures.value in
-    let once : distinct (literals c.terms-t-items.result.now) ≡ true = subst (λ (ts : List Term). distinct (literals ts) ≡ true) (sym e) c.args.self.now.once in
-    weight_found c.terms-t-items.result.now c.loop-t.t-index c.t-item.result c.args.l once c.loop-t-test.true c.t-item.is (sym c.if-is_same.ensures.test)
-    ∙ ap (λ (ts : List Term). weight_of ts c.args.l) e
-
-pub loop-t-preserved : goal.loop-t-preserved
-loop-t-preserved c = none_more c.terms-t-items.result.now c.loop-t.t-index c.t-item.result c.args.l c.loop-t-test.true c.t-item.is (sym c.if-is_same.ensures.test) c.loop-t.invariant
-
 pub returns : goal.returns
-returns c = sym c.loop-t.invariant ∙ ap (λ (ts : List Term). weight_of ts c.args.l) (take_all _ _ c.loop-t-test.false ∙ c.terms-t-items.ensures.value)
+returns c =
+    let ts = terms_of c.args.self.now in
+    let l = c.args.l in
+    let found =
+    find_from_yields_List (λ (t : Term). same t.literal l) _ _ _ c.find.ensures.ran (YieldsList-from_slice ts (c.iter.ensures.rest ∙ c.terms.ensures.value)) (λ x b q k. search rules) in
+    let it : c.map_or.result ≡ unwrap_or (option_map (λ x. x.now.weight) c.find.result) 0 = search rules in
+    it ∙ ap (λ (o : Option ℕ). unwrap_or o 0) (fused (λ x. x.now) (λ (t : Term). t.weight) c.find.result)
+    ∙ ap (λ (o : Option Term). unwrap_or (option_map (λ (t : Term). t.weight) o) 0) found ∙ found_weighs ts l c.args.self.now.once

@@ -1,11 +1,6 @@
-use Rattle.std.proofs.Common.{sum, ap, ◌∙◌, take_all, rules}
-use Rattle.std.proofs.lemmas.List.Sums.{sum_by_more}
+use Rattle.std.proofs.Common.{rules}
+use Rattle.std.proofs.iter.runs.Sources.{sums}
 use Rattle.linear.proofs.linear.making.total.Goals as goal
 
-pub loop-w-preserved : goal.loop-w-preserved
-loop-w-preserved c =
-    let e = sum_by_more (λ x. x) c.args.weights.now c.loop-w.w-index 0 c.loop-w-test.true in
-    (search rules, cc)
-
-pub returns : goal.returns
-returns c = record { sum = c.loop-w.invariant.1 ∙ ap sum (take_all _ _ c.loop-w-test.false); few = search rules }
+pub returns-clause-few : goal.returns-clause-few
+returns-clause-few c = search (rules, sums)
