@@ -1,114 +1,78 @@
--- The value of one column is read, and those of the others stay; the first field that writes no value.
-use Rattle.std.proofs.Common.{◌≡◌, ℕ, true, ◌&&◌, List, [], ◌∷◌, length, get_or, ℤ, sym, refl, ap, subst, arith}
-use Rattle.std.proofs.lemmas.Bool.{and_parts, not-true, both_ways, eq-eqb}
-use Rattle.literals.specs.declared.refusal.Refusal.{Refusal}
-use Rattle.numerals.specs.Numerals.{Numeral, SignedNumeral}
-use Rattle.lines.specs.Lines.{Five, Places}
+-- One column to a name; no column comes twice.
+use Rattle.std.proofs.Common.{Result, Ok, Err, IfOk, IfErr, MatchResult, map, ◌≡◌, ℕ, ◌<◌, ◌≢◌, List, [], ◌∷◌, cond, eqb, length, get_or, take, sym, refl, ap, ◌∙◌, subst, arith}
+use Rattle.std.specs.List.{Contains}
+use Rattle.std.proofs.lemmas.List.{get_or-take, get_or_default, get_or-map, length-map, length-take-le}
+use Rattle.std.specs.List.{AllZip, IsAmong}
+use Rattle.std.specs.Array.{AllZipBelow}
+use Rattle.cursor.specs.declared.field.Field.{Field}
+use Rattle.lines.specs.Fields.{words}
 use Rattle.entries.specs.declared.column.Column.{Column}
 use Rattle.entries.specs.declared.column.Column.TheVariants.{Rule, Kind, Bound, Weight, Switch}
-use Rattle.entries.specs.declared.kind.RuleKind.{RuleKind}
-use Rattle.entries.specs.declared.entry.Entry.{Entry}
+use Rattle.entries.specs.declared.column.UnknownColumn.{UnknownColumn}
 use Rattle.entries.specs.declared.order.Order.{Order}
-use Rattle.entries.specs.Columns.{code_of, differ}
-use Rattle.entries.specs.Kinds.{letter_of}
-use Rattle.entries.specs.Entries.{Holds, Keeps, Good, Bad, FirstBad, bad_first, bad_second, bad_third, bad_fourth, bad_fifth, wrong}
+use Rattle.entries.specs.Columns.{Apart, name_of}
+use Rattle.entries.specs.Entries.{Names}
 
--- a list of one element
-pub single : (xs : List ℕ) (b : ℕ) → length xs ≡ 1 → get_or xs 0 0 ≡ b → xs ≡ b ∷ []
-single [] b l e = absurd (omega arith)
-single (x ∷ []) b l e = ap (λ y. y ∷ []) e
-single (x ∷ y ∷ ys) b l e = absurd (omega arith)
+-- a column that is none of the first n
+pub one_more : (cs : List Column) (n : ℕ) (x : Column) → n < length cs → (Contains (take n cs) (get_or cs n x) → ⊥)
+    → (i : ℕ) (d : Column) → i < n → get_or cs i d ≢ get_or cs n d
+one_more cs n x l new i d h e =
+    new (i, omega (arith, length-take-le n cs (omega arith)), get_or-take n cs i _ h ∙ (get_or_default cs i _ d (omega arith) ∙ (e ∙ get_or_default cs n d x l)))
 
--- what the other columns hold stays
-pub kept : (c d : Column) (f : List ℕ) (e n : Entry) → (c ≡ d → ⊥) → Keeps d e n → Holds c f e → Holds c f n
-kept Rule Rule f e n apart k h = absurd (apart refl)
-kept Rule Kind f e n apart k h = subst (λ (m : ℕ). Numeral f m) (sym k.0) h
-kept Rule Bound f e n apart k h = subst (λ (m : ℕ). Numeral f m) (sym k.0) h
-kept Rule Weight f e n apart k h = subst (λ (m : ℕ). Numeral f m) (sym k.0) h
-kept Rule Switch f e n apart k h = subst (λ (m : ℕ). Numeral f m) (sym k.0) h
-kept Kind Rule f e n apart k h = subst (λ (m : RuleKind). f ≡ letter_of m ∷ []) (sym k.0) h
-kept Kind Kind f e n apart k h = absurd (apart refl)
-kept Kind Bound f e n apart k h = subst (λ (m : RuleKind). f ≡ letter_of m ∷ []) (sym k.1) h
-kept Kind Weight f e n apart k h = subst (λ (m : RuleKind). f ≡ letter_of m ∷ []) (sym k.1) h
-kept Kind Switch f e n apart k h = subst (λ (m : RuleKind). f ≡ letter_of m ∷ []) (sym k.1) h
-kept Bound Rule f e n apart k h = subst (λ (m : ℕ). Numeral f m) (sym k.1) h
-kept Bound Kind f e n apart k h = subst (λ (m : ℕ). Numeral f m) (sym k.1) h
-kept Bound Bound f e n apart k h = absurd (apart refl)
-kept Bound Weight f e n apart k h = subst (λ (m : ℕ). Numeral f m) (sym k.2) h
-kept Bound Switch f e n apart k h = subst (λ (m : ℕ). Numeral f m) (sym k.2) h
-kept Weight Rule f e n apart k h = subst (λ (m : ℕ). Numeral f m) (sym k.2) h
-kept Weight Kind f e n apart k h = subst (λ (m : ℕ). Numeral f m) (sym k.2) h
-kept Weight Bound f e n apart k h = subst (λ (m : ℕ). Numeral f m) (sym k.2) h
-kept Weight Weight f e n apart k h = absurd (apart refl)
-kept Weight Switch f e n apart k h = subst (λ (m : ℕ). Numeral f m) (sym k.3) h
-kept Switch Rule f e n apart k h = subst (λ (m : ℤ). SignedNumeral f m) (sym k.3) h
-kept Switch Kind f e n apart k h = subst (λ (m : ℤ). SignedNumeral f m) (sym k.3) h
-kept Switch Bound f e n apart k h = subst (λ (m : ℤ). SignedNumeral f m) (sym k.3) h
-kept Switch Weight f e n apart k h = subst (λ (m : ℤ). SignedNumeral f m) (sym k.3) h
-kept Switch Switch f e n apart k h = absurd (apart refl)
+-- ---- one name to a column
 
--- ---- a field that was refused, after those that were read
+pub head_of : {a b : ℕ} {xs ys : List ℕ} → a ∷ xs ≡ b ∷ ys → a ≡ b
+head_of e = cc
 
-module _ (o : Order) (w : Five) (q : Places) (n : Refusal) (p : ℕ) where
-  pub refused_first : Bad o.first w.first → n ≡ wrong o.first → p ≡ q.first → FirstBad o w q n p
-  refused_first b e f = rw (e, f) (bad_first b)
+-- the column whose name begins with this byte
+begun : ℕ → Column
+begun b = cond (eqb b 114) Rule (cond (eqb b 107) Kind (cond (eqb b 98) Bound (cond (eqb b 119) Weight Switch)))
 
-  pub refused_second : Good o.first w.first → Bad o.second w.second → n ≡ wrong o.second → p ≡ q.second → FirstBad o w q n p
-  refused_second h1 b e f = rw (e, f) (bad_second h1 b)
+begun_name : (c : Column) → begun (get_or (name_of c) 0 0) ≡ c
+unfolding begun
+begun_name Rule = refl
+begun_name Kind = refl
+begun_name Bound = refl
+begun_name Weight = refl
+begun_name Switch = refl
 
-  pub refused_third : Good o.first w.first → Good o.second w.second → Bad o.third w.third → n ≡ wrong o.third → p ≡ q.third → FirstBad o w q n p
-  refused_third h1 h2 b e f = rw (e, f) (bad_third h1 h2 b)
+pub one_column : (c d : Column) → name_of c ≡ name_of d → c ≡ d
+one_column c d e = sym (begun_name c) ∙ (ap (λ f. begun (get_or f 0 0)) e ∙ begun_name d)
 
-  pub refused_fourth : Good o.first w.first → Good o.second w.second → Good o.third w.third → Bad o.fourth w.fourth
-      → n ≡ wrong o.fourth → p ≡ q.fourth → FirstBad o w q n p
-  refused_fourth h1 h2 h3 b e f = rw (e, f) (bad_fourth h1 h2 h3 b)
+pub one_list : (cs ds : List Column) → map name_of cs ≡ map name_of ds → cs ≡ ds
+one_list [] [] e = refl
+one_list [] (d ∷ ds) e = cc
+one_list (c ∷ cs) [] e = cc
+one_list (c ∷ cs) (d ∷ ds) e =
+    let head : name_of c ≡ name_of d = cc in
+    let tail : map name_of cs ≡ map name_of ds = cc in
+    cc (one_column c d head, one_list cs ds tail)
 
-  pub refused_fifth : Good o.first w.first → Good o.second w.second → Good o.third w.third → Good o.fourth w.fourth
-      → Bad o.fifth w.fifth → n ≡ wrong o.fifth → p ≡ q.fifth → FirstBad o w q n p
-  refused_fifth h1 h2 h3 h4 b e f = rw (e, f) (bad_fifth h1 h2 h3 h4 b)
+-- ---- the names of a line
 
--- ---- no column of an order comes twice
+all_named : {R : Field → Column → Type 0} → ((f : Field) (c : Column) → R f c → f.bytes.now ≡ name_of c)
+    → (fs : List Field) (cs : List Column) → AllZip R fs cs → words fs ≡ map name_of cs
+all_named good [] [] a = refl
+all_named good [] (c ∷ cs) a = absurd a
+all_named good (f ∷ fs) [] a = absurd a
+all_named good (f ∷ fs) (c ∷ cs) a = cc (good f c a.0, all_named good fs cs a.1)
 
-pub record Apart (o : Order) : Type 0 where
-  pub first_second : o.first ≡ o.second → ⊥
-  pub first_third : o.first ≡ o.third → ⊥
-  pub first_fourth : o.first ≡ o.fourth → ⊥
-  pub first_fifth : o.first ≡ o.fifth → ⊥
-  pub second_third : o.second ≡ o.third → ⊥
-  pub second_fourth : o.second ≡ o.fourth → ⊥
-  pub second_fifth : o.second ≡ o.fifth → ⊥
-  pub third_fourth : o.third ≡ o.fourth → ⊥
-  pub third_fifth : o.third ≡ o.fifth → ⊥
-  pub fourth_fifth : o.fourth ≡ o.fifth → ⊥
+one_unnamed : (fs : List Field) (f : Field) → IsAmong fs f → ((c : Column) → f.bytes.now ≢ name_of c) → (cs : List Column) → words fs ≢ map name_of cs
+one_unnamed fs f a none cs e =
+    let i = a.0 in
+    let long : length fs ≡ length cs = sym (length-map fs _) ∙ (ap length e ∙ length-map cs name_of) in
+    none (get_or cs i Rule) (
+    ap (λ g. g.bytes.now) a.1.1 ∙ (sym (get_or-map _ fs i f f.bytes.now a.1.0)
+    ∙ (ap (λ ws. get_or ws i f.bytes.now) e ∙ get_or-map name_of cs i Rule f.bytes.now (omega (arith, a.1.0))))
+    )
 
-differ-apart : (c d : Column) → differ c d ≡ true → c ≡ d → ⊥
-differ-apart c d h e = both_ways _ (not-true _ h) (eq-eqb (code_of c) (code_of d) (ap code_of e))
+pub names_read : {R : Field → Column → Type 0} {P : Type 0} {S : Field → UnknownColumn → P → P → Type 0} (fs : List Field)
+    → ((f : Field) (c : Column) → R f c → f.bytes.now ≡ name_of c) → ((f : Field) (u : UnknownColumn) (p q : P) → S f u p q → (c : Column) → f.bytes.now ≢ name_of c)
+    → (r : Result (List Column) UnknownColumn) → IfOk r (λ cs. AllZipBelow R fs cs 5) → IfErr r (λ u. (f : Field) × IsAmong fs f × (p : P) × (q : P) × S f u p q)
+    → MatchResult r (λ cs. words fs ≡ map name_of cs) (λ _. (cs : List Column) → words fs ≢ map name_of cs)
+names_read fs good wrong (Ok cs) a b = all_named good fs cs a.whole
+names_read fs good wrong (Err u) a b = one_unnamed fs b.0 b.1 (wrong b.0 u b.2 b.3 b.4)
 
-pub columns_apart : (o : Order) → Apart o
-columns_apart o =
-    let a = o.first in
-    let b = o.second in
-    let c = o.third in
-    let d = o.fourth in
-    let e = o.fifth in
-    let h1 = and_parts (((differ a b && differ a c) && differ a d) && differ a e) (((differ b c && differ b d) && differ b e) && ((differ c d && differ c e) && differ d e)) o.once in
-    let h2 = and_parts ((differ b c && differ b d) && differ b e) ((differ c d && differ c e) && differ d e) h1.1 in
-    let h3 = and_parts (differ c d && differ c e) (differ d e) h2.1 in
-    let a1 = and_parts ((differ a b && differ a c) && differ a d) (differ a e) h1.0 in
-    let a2 = and_parts (differ a b && differ a c) (differ a d) a1.0 in
-    let a3 = and_parts (differ a b) (differ a c) a2.0 in
-    let b1 = and_parts (differ b c && differ b d) (differ b e) h2.0 in
-    let b2 = and_parts (differ b c) (differ b d) b1.0 in
-    let c1 = and_parts (differ c d) (differ c e) h3.0 in
-    record {
-      first_second = differ-apart a b a3.0;
-      first_third = differ-apart a c a3.1;
-      first_fourth = differ-apart a d a2.1;
-      first_fifth = differ-apart a e a1.1;
-      second_third = differ-apart b c b2.0;
-      second_fourth = differ-apart b d b2.1;
-      second_fifth = differ-apart b e b1.1;
-      third_fourth = differ-apart c d c1.0;
-      third_fifth = differ-apart c e c1.1;
-      fourth_fifth = differ-apart d e h3.1;
-    }
+-- columns of which one comes twice are no order of the line that names them
+pub named_apart : (w : List (List ℕ)) (cs : List Column) (o : Order) → w ≡ map name_of cs → Names w o → Apart cs
+named_apart w cs o e n = subst Apart (one_list o.columns cs (sym n.names ∙ e)) o.once

@@ -1,45 +1,44 @@
-ghost use Rattle.std.specs.Prelude.{◌≡◌, Decides, MatchOption, ◌≢◌};
-ghost use Rattle.entries.specs.Columns.{differ, name_of};
+ghost use Rattle.entries.specs.Columns.{Named};
+
+use std::error::Error;
+use std::fmt;
 
 // A column of a rulebook.
-#[derive(Clone, Copy)]
+#[derive(Clone, Copy, Debug, PartialEq, Eq, Hash)]
 pub enum Column {
-    Rule = 0,
-    Kind = 1,
-    Bound = 2,
-    Weight = 3,
-    Switch = 4,
+    Rule,
+    Kind,
+    Bound,
+    Weight,
+    Switch,
 }
 
-fn same_bytes(a: &[u8], b: &[u8]) -> bool
-    ensures { Decides result (a.now ≡ b.now) }
-{
-    a == b
-}
+// A name that is the name of no column.
+#[derive(Clone, Copy, Debug, PartialEq, Eq)]
+pub struct UnknownColumn;
 
-impl Column {
-    // The column of this name.
-    pub fn named(name: &[u8]) -> Option<Column>
-        ensures { MatchOption result ((c : Column) → name.now ≢ name_of c) (λ c. name.now ≡ name_of c) }
-    {
-        if same_bytes(name, b"rule") {
-            Some(Column::Rule)
-        } else if same_bytes(name, b"kind") {
-            Some(Column::Kind)
-        } else if same_bytes(name, b"bound") {
-            Some(Column::Bound)
-        } else if same_bytes(name, b"weight") {
-            Some(Column::Weight)
-        } else if same_bytes(name, b"switch") {
-            Some(Column::Switch)
-        } else {
-            None
+// The column of this name.
+impl<'a> TryFrom<&'a [u8]> for Column {
+    type Error = UnknownColumn;
+
+    ghost try_from_gives = { λ name r. Named name.now r };
+
+    fn try_from(name: &'a [u8]) -> Result<Self, UnknownColumn> {
+        match name {
+            b"rule" => Ok(Column::Rule),
+            b"kind" => Ok(Column::Kind),
+            b"bound" => Ok(Column::Bound),
+            b"weight" => Ok(Column::Weight),
+            b"switch" => Ok(Column::Switch),
+            _ => Err(UnknownColumn),
         }
     }
+}
 
-    pub fn differs(self, other: Column) -> bool
-        ensures { result ≡ differ self other }
-    {
-        self as u8 != other as u8
+impl fmt::Display for UnknownColumn {
+    fn fmt<W: fmt::Write>(&self, f: &mut fmt::Formatter<W>) -> fmt::Result {
+        f.write_str("no column has this name")
     }
 }
+
+impl Error for UnknownColumn {}

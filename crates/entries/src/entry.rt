@@ -1,4 +1,4 @@
-ghost use Rattle.std.specs.Prelude.{◌≡◌, MatchResult};
+ghost use Rattle.std.specs.Prelude.{◌≡◌, MatchOption, MatchResult};
 ghost use Rattle.entries.specs.Entries.{Bad, FirstBad, Holds, Keeps, Says, wrong};
 ghost use Rattle.lines.specs.Fields.{fields_of, places_of};
 
@@ -11,7 +11,7 @@ use literals::Refusal;
 use numerals::{signed, unsigned};
 
 // The values of a line, as they are written there.
-#[derive(Clone, Copy)]
+#[derive(Clone, Copy, Debug, PartialEq, Eq)]
 pub struct Entry {
     pub rule: u32,
     pub kind: RuleKind,
@@ -27,48 +27,55 @@ pub struct BadField {
     pub place: usize,
 }
 
-fn no_number(field: Field) -> BadField
-    ensures refusal { result.refusal ≡ Refusal.NotNumber }
-    ensures place { result.place ≡ field.entry.place }
+// What a field is refused by that writes no value of the column.
+fn wrong(column: Column) -> Refusal
+    ensures { result ≡ wrong column }
 {
-    BadField {
-        refusal: Refusal::NotNumber,
-        place: field.place,
+    match column {
+        Column::Kind => Refusal::KindLetter,
+        Column::Rule | Column::Bound | Column::Weight | Column::Switch => Refusal::NotNumber,
     }
 }
 
 impl Entry {
+    // The entry with the value of one column as the field writes it, or none where it writes no value of it.
+    fn written(self, column: Column, field: &[u8]) -> Option<Entry>
+        ensures { MatchOption result (Bad column field.now) (λ e. Holds column field.now e × Keeps column self e) }
+    {
+        Some(match column {
+            Column::Rule => Entry {
+                rule: unsigned(field)?,
+                ..self
+            },
+            Column::Kind => Entry {
+                kind: RuleKind::try_from(field).ok()?,
+                ..self
+            },
+            Column::Bound => Entry {
+                bound: unsigned(field)?,
+                ..self
+            },
+            Column::Weight => Entry {
+                weight: unsigned(field)?,
+                ..self
+            },
+            Column::Switch => Entry {
+                switch: signed(field)?,
+                ..self
+            },
+        })
+    }
+
     // The entry with the value of one column as the field writes it. Refused by 8, or by 9 for a kind.
     fn with(self, column: Column, field: Field) -> Result<Entry, BadField>
         ensures { MatchResult result
             (λ e. Holds column field.entry.bytes.now e × Keeps column self e)
             (λ b. Bad column field.entry.bytes.now × (b.refusal ≡ wrong column) × (b.place ≡ field.entry.place)) }
     {
-        match column {
-            Column::Rule => match unsigned(field.bytes) {
-                Some(rule) => Ok(Entry { rule, ..self }),
-                None => Err(no_number(field)),
-            },
-            Column::Kind => match RuleKind::lettered(field.bytes) {
-                Some(kind) => Ok(Entry { kind, ..self }),
-                None => Err(BadField {
-                    refusal: Refusal::KindLetter,
-                    place: field.place,
-                }),
-            },
-            Column::Bound => match unsigned(field.bytes) {
-                Some(bound) => Ok(Entry { bound, ..self }),
-                None => Err(no_number(field)),
-            },
-            Column::Weight => match unsigned(field.bytes) {
-                Some(weight) => Ok(Entry { weight, ..self }),
-                None => Err(no_number(field)),
-            },
-            Column::Switch => match signed(field.bytes) {
-                Some(switch) => Ok(Entry { switch, ..self }),
-                None => Err(no_number(field)),
-            },
-        }
+        self.written(column, field.bytes).ok_or(BadField {
+            refusal: wrong(column),
+            place: field.place,
+        })
     }
 }
 
@@ -78,17 +85,15 @@ pub fn read_entry(order: Order, line: &Line) -> Result<Entry, BadField>
         (λ e. Says order (fields_of line.now) e)
         (λ b. FirstBad order (fields_of line.now) (places_of line.now) b.refusal b.place) }
 {
-    let none = Entry {
+    let mut entry = Entry {
         rule: 0,
         kind: RuleKind::AtLeast,
         bound: 0,
         weight: 0,
         switch: 0,
     };
-    let one = none.with(order.first, line.first)?;
-    let two = one.with(order.second, line.second)?;
-    let three = two.with(order.third, line.third)?;
-    let four = three.with(order.fourth, line.fourth)?;
-    let five = four.with(order.fifth, line.fifth)?;
-    Ok(five)
+    for (&column, &field) in order.columns.iter().zip(&line.fields) {
+        entry = entry.with(column, field)?;
+    }
+    Ok(entry)
 }

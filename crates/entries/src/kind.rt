@@ -1,44 +1,42 @@
-ghost use Rattle.std.specs.Prelude.{◌≡◌, [], ◌∷◌, Decides, MatchOption, ◌≢◌};
-ghost use Rattle.entries.specs.Kinds.{letter_of};
+ghost use Rattle.entries.specs.Kinds.{Lettered};
+
+use std::error::Error;
+use std::fmt;
 
 // What kind of rule a line belongs to, known in a book by its letter: n, m or c.
-#[derive(Clone, Copy)]
+#[derive(Clone, Copy, Debug, PartialEq, Eq, Hash)]
 pub enum RuleKind {
     // The weights come to the bound at least.
-    AtLeast = 0,
+    AtLeast,
     // The weights come to the bound at most.
-    AtMost = 1,
-    Clause = 2,
+    AtMost,
+    Clause,
 }
 
-fn of_letter(letter: u8) -> Option<RuleKind>
-    ensures { MatchOption result ((k : RuleKind) → letter ≢ letter_of k) (λ k. letter ≡ letter_of k) }
-{
-    match char::from(letter) {
-        'n' => Some(RuleKind::AtLeast),
-        'm' => Some(RuleKind::AtMost),
-        'c' => Some(RuleKind::Clause),
-        _ => None,
-    }
-}
+// A field that is the letter of no kind.
+#[derive(Clone, Copy, Debug, PartialEq, Eq)]
+pub struct UnknownKind;
 
-impl RuleKind {
-    // The kind whose letter is the whole field.
-    pub fn lettered(field: &[u8]) -> Option<RuleKind>
-        ensures { MatchOption result ((k : RuleKind) → field.now ≢ letter_of k ∷ []) (λ k. field.now ≡ letter_of k ∷ []) }
-    {
+// The kind whose letter is the whole field.
+impl<'a> TryFrom<&'a [u8]> for RuleKind {
+    type Error = UnknownKind;
+
+    ghost try_from_gives = { λ field r. Lettered field.now r };
+
+    fn try_from(field: &'a [u8]) -> Result<Self, UnknownKind> {
         match field {
-            [letter] => match of_letter(*letter) {
-                Some(kind) => Some(kind),
-                None => None,
-            },
-            _ => None,
+            b"n" => Ok(RuleKind::AtLeast),
+            b"m" => Ok(RuleKind::AtMost),
+            b"c" => Ok(RuleKind::Clause),
+            _ => Err(UnknownKind),
         }
     }
+}
 
-    pub fn is(self, other: RuleKind) -> bool
-        ensures { Decides result (self ≡ other) }
-    {
-        self as u8 == other as u8
+impl fmt::Display for UnknownKind {
+    fn fmt<W: fmt::Write>(&self, f: &mut fmt::Formatter<W>) -> fmt::Result {
+        f.write_str("no kind of rule has this letter")
     }
 }
+
+impl Error for UnknownKind {}

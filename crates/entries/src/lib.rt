@@ -7,8 +7,8 @@ mod kind;
 mod names;
 mod order;
 
-pub use column::Column;
+pub use column::{Column, UnknownColumn};
 pub use entry::{BadField, Entry, read_entry};
-pub use kind::RuleKind;
+pub use kind::{RuleKind, UnknownKind};
 pub use names::read_names;
 pub use order::Order;

@@ -1,15 +1,13 @@
-ghost use Rattle.std.specs.Prelude.{◌≡◌, true};
-ghost use Rattle.entries.specs.Columns.{apart};
+ghost use Rattle.std.specs.Prelude.{◌≡◌, length};
+ghost use Rattle.entries.specs.Columns.{Apart};
 
 use crate::column::Column;
+use lines::FIELDS;
 
 // Which column each field of a line belongs to. No column comes twice.
-#[derive(Clone, Copy)]
+#[derive(Clone, Copy, Debug, PartialEq, Eq)]
 pub struct Order {
-    pub(crate) first: Column,
-    pub(crate) second: Column,
-    pub(crate) third: Column,
-    pub(crate) fourth: Column,
-    pub(crate) fifth: Column,
-    ghost once: { apart first second third fourth fifth ≡ true },
+    pub(crate) columns: [Column; FIELDS],
+    ghost five: { length columns ≡ 5 },
+    ghost once: { Apart columns },
 }

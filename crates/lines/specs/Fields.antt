@@ -1,11 +1,18 @@
--- What a line that was read holds.
---   fields_of   its five fields
---   places_of   and their places
+-- What fields that were read hold.
+--   words, starts          the fields' bytes and their places
+--   fields_of, places_of   those of a line
+use Rattle.std.specs.Prelude.{ℕ, List, map}
+use Rattle.cursor.specs.declared.field.Field.{Field}
 use Rattle.lines.specs.declared.line.Line.{Line}
-use Rattle.lines.specs.Lines.{Five, Places}
 
-abbrev pub fields_of : Line → Five
-fields_of l = record { first = l.first.bytes.now; second = l.second.bytes.now; third = l.third.bytes.now; fourth = l.fourth.bytes.now; fifth = l.fifth.bytes.now }
+abbrev pub words : List Field → List (List ℕ)
+words fs = map (λ f. f.bytes.now) fs
 
-abbrev pub places_of : Line → Places
-places_of l = record { first = l.first.place; second = l.second.place; third = l.third.place; fourth = l.fourth.place; fifth = l.fifth.place }
+abbrev pub starts : List Field → List ℕ
+starts fs = map (λ f. f.place) fs
+
+abbrev pub fields_of : Line → List (List ℕ)
+fields_of l = words l.fields
+
+abbrev pub places_of : Line → List ℕ
+places_of l = starts l.fields

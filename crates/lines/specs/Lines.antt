@@ -1,52 +1,34 @@
 -- Lines of five fields, by the places where they stand in the text.
---   Five             the five fields of a line
---   place2, ..       where the second field begins, and so on, if the line begins at p
---   after            where the next line begins
---   Places, places   the places of the five fields
---   LineAt           at a place of the text stands a line of these five fields
---   NoLineAt         no line of five fields stands there
-use Rattle.std.specs.Prelude.{ℕ, List}
-use Rattle.cursor.specs.Fields.{FieldAt, past}
+--   closes     what ends each of the five fields: a space each of the first four, a line break the fifth
+--   FieldsAt   at a place of the text stand these fields, one behind the other, each before what ends it
+--   after      where the reading goes on after them
+--   places     and where each of them begins
+--   LineAt     at a place of the text stands a line of these five fields
+--   NoLineAt   no line of five fields stands there
+use Rattle.std.specs.Prelude.{ℕ, List, [], ◌∷◌}
+use Rattle.cursor.specs.declared.close.Close.{Close}
+use Rattle.cursor.specs.declared.close.Close.TheVariants.{Space, Break}
+use Rattle.cursor.specs.Fields.{FieldAt, byte_of, past}
 
-pub record Five : Type 0 where
-  pub first : List ℕ
-  pub second : List ℕ
-  pub third : List ℕ
-  pub fourth : List ℕ
-  pub fifth : List ℕ
+abbrev pub closes : List Close
+closes = Space ∷ Space ∷ Space ∷ Space ∷ Break ∷ []
 
-abbrev pub place2 : ℕ → Five → ℕ
-place2 p w = past p w.first
+abbrev pub after : ℕ → List (List ℕ) → ℕ
+after p [] = p
+after p (f ∷ w) = after (past p f) w
 
-abbrev pub place3 : ℕ → Five → ℕ
-place3 p w = past (place2 p w) w.second
+abbrev pub places : ℕ → List (List ℕ) → List ℕ
+places p [] = []
+places p (f ∷ w) = p ∷ places (past p f) w
 
-abbrev pub place4 : ℕ → Five → ℕ
-place4 p w = past (place3 p w) w.third
+abbrev pub FieldsAt : List ℕ → ℕ → List Close → List (List ℕ) → Type 0
+FieldsAt text p [] [] = Unit
+FieldsAt text p [] (f ∷ w) = ⊥
+FieldsAt text p (c ∷ cs) [] = ⊥
+FieldsAt text p (c ∷ cs) (f ∷ w) = FieldAt text p f (byte_of c) × FieldsAt text (past p f) cs w
 
-abbrev pub place5 : ℕ → Five → ℕ
-place5 p w = past (place4 p w) w.fourth
-
-abbrev pub after : ℕ → Five → ℕ
-after p w = past (place5 p w) w.fifth
-
-pub record Places : Type 0 where
-  pub first : ℕ
-  pub second : ℕ
-  pub third : ℕ
-  pub fourth : ℕ
-  pub fifth : ℕ
-
-abbrev pub places : ℕ → Five → Places
-places p w = record { first = p; second = place2 p w; third = place3 p w; fourth = place4 p w; fifth = place5 p w }
-
--- a space stands after each field but the last, and a line break after the last
-pub record LineAt (text : List ℕ) (p : ℕ) (w : Five) : Type 0 where
-  pub first : FieldAt text p w.first 32
-  pub second : FieldAt text (place2 p w) w.second 32
-  pub third : FieldAt text (place3 p w) w.third 32
-  pub fourth : FieldAt text (place4 p w) w.fourth 32
-  pub fifth : FieldAt text (place5 p w) w.fifth 10
+pub record LineAt (text : List ℕ) (p : ℕ) (w : List (List ℕ)) : Type 0 where
+  pub fields : FieldsAt text p closes w
 
 abbrev pub NoLineAt : List ℕ → ℕ → Type 0
-NoLineAt text p = (w : Five) → LineAt text p w → ⊥
+NoLineAt text p = (w : List (List ℕ)) → LineAt text p w → ⊥

@@ -4,5 +4,5 @@
 mod line;
 mod reading;
 
-pub use line::Line;
+pub use line::{FIELDS, Line};
 pub use reading::read_line;

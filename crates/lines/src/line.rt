@@ -1,11 +1,10 @@
 use cursor::Field;
 
-// The five fields of a line, in their order.
-#[derive(Clone, Copy)]
+// How many fields a line has.
+pub const FIELDS: usize = 5;
+
+// The fields of a line, in their order.
+#[derive(Clone, Copy, Debug, PartialEq, Eq)]
 pub struct Line<'a> {
-    pub first: Field<'a>,
-    pub second: Field<'a>,
-    pub third: Field<'a>,
-    pub fourth: Field<'a>,
-    pub fifth: Field<'a>,
+    pub fields: [Field<'a>; FIELDS],
 }

@@ -2,8 +2,17 @@ ghost use Rattle.std.specs.Prelude.{◌≡◌, MatchOption};
 ghost use Rattle.lines.specs.Fields.{fields_of, places_of};
 ghost use Rattle.lines.specs.Lines.{LineAt, NoLineAt, after, places};
 
-use crate::line::Line;
-use cursor::Reader;
+use crate::line::{FIELDS, Line};
+use cursor::{Close, Field, Reader};
+
+// What ends each field of a line.
+const CLOSES: [Close; FIELDS] = [
+    Close::Space,
+    Close::Space,
+    Close::Space,
+    Close::Space,
+    Close::Break,
+];
 
 // Reads the line that stands here, and goes on behind its line break. Stays where there is none.
 pub fn read_line<'a>(reader: &mut Reader<'a>) -> Option<Line<'a>>
@@ -15,17 +24,10 @@ pub fn read_line<'a>(reader: &mut Reader<'a>) -> Option<Line<'a>>
         × (reader.new.at ≡ after reader.old.at (fields_of l))) }
 {
     let mut ahead = reader.ahead();
-    let first = ahead.field_before_space()?;
-    let second = ahead.field_before_space()?;
-    let third = ahead.field_before_space()?;
-    let fourth = ahead.field_before_space()?;
-    let fifth = ahead.field_before_break()?;
+    let mut fields = [Field::default(); FIELDS];
+    for (i, &close) in CLOSES.iter().enumerate() {
+        fields[i] = ahead.field_before(close)?;
+    }
     *reader = ahead;
-    Some(Line {
-        first,
-        second,
-        third,
-        fourth,
-        fifth,
-    })
+    Some(Line { fields })
 }

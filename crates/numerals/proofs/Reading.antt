@@ -1,19 +1,12 @@
 -- Reading digit by digit; a text writes one number at most.
-use Rattle.std.proofs.Common.{◌≡◌, ℕ, ◌+◌, ◌-◌, ◌*◌, ◌^◌, ◌<◌, ◌≤◌, List, [], ◌∷◌, length, get_or, take, drop, ℤ, pos, neg_ℤ, sym, refl, ap, ◌∙◌, subst, add-one, arith, lit≤}
-use native.Mathlib.Nat.{pow-le-pow_right, pow-succ'}
+use Rattle.std.proofs.Common.{◌≡◌, ℕ, ◌-◌, ◌^◌, ◌<◌, ◌≤◌, List, [], ◌∷◌, length, get_or, take, drop, ℤ, pos, neg_ℤ, sym, ap, ◌∙◌, subst, arith, lit≤}
+use native.Mathlib.Nat.{pow-le-pow_right}
 use Rattle.std.proofs.lemmas.List.{take_rest}
 use Rattle.numerals.specs.Numerals.{Numeral, SignedNumeral, plain, minus}
 
 -- below nine digits a number has room for one more
 pub room : (n i : ℕ) → n < 10 ^ i → i ≤ 8 → n < 10 ^ 8
 room n i b h = let p : 10 ^ i ≤ 10 ^ 8 = pow-le-pow_right (lit≤ tt) h in omega arith
-
-pub nine : (n i : ℕ) → n < 10 ^ i → i ≤ 9 → n < 10 ^ 9
-nine n i b h = let p : 10 ^ i ≤ 10 ^ 9 = pow-le-pow_right (lit≤ tt) h in omega arith
-
--- one digit more
-pub grown : (n i d : ℕ) → n < 10 ^ i → d ≤ 9 → 10 * n + d < 10 ^ (i + 1)
-grown n i d b h = let p : 10 ^ (i + 1) ≡ 10 * 10 ^ i = rw (add-one, pow-succ') in omega arith
 
 pub one_number : (ds : List ℕ) (m n : ℕ) → Numeral ds m → Numeral ds n → m ≡ n
 one_number ds m n a b = a.value ∙ sym b.value
@@ -30,13 +23,10 @@ one_signed _ _ _ (minus m p) (minus k q) = ap (λ n. neg_ℤ (pos n)) (m.value �
 
 -- ---- a text that begins with a minus, and one that does not
 
-tails : {a b : ℕ} {xs ys : List ℕ} → a ∷ xs ≡ b ∷ ys → xs ≡ ys
-tails q = cc
-
 -- what a text with a minus in front writes, its digits write
 none_after : (u : List ℕ) (z : ℤ) → SignedNumeral u z → (ds : List ℕ) → u ≡ 45 ∷ ds → ((n : ℕ) → 0 < n → Numeral ds n → ⊥) → ⊥
 none_after _ _ (plain {n = k} m) ds e no1 = minus_no_digit ds k (subst (λ (v : List ℕ). Numeral v k) e m)
-none_after _ _ (minus {n = k} m p) ds e no1 = no1 k p (subst (λ (v : List ℕ). Numeral v k) (tails e) m)
+none_after _ _ (minus {n = k} m p) ds e no1 = no1 k p (subst (λ (v : List ℕ). Numeral v k) (cc) m)
 
 module _ (t : List ℕ) (some : 0 < length t) (first : get_or t 0 0 ≡ 45) where
   abbrev rest : List ℕ
@@ -50,10 +40,3 @@ module _ (t : List ℕ) (some : 0 < length t) (first : get_or t 0 0 ≡ 45) wher
 
   pub minus_none : ((n : ℕ) → Numeral rest n → ⊥) → (z : ℤ) → SignedNumeral t z → ⊥
   minus_none no1 z w = none_after t z w rest split_minus (λ n p m. no1 n m)
-
-  pub minus-zero : (n : ℕ) → n ≡ 0 → Numeral rest n → (z : ℤ) → SignedNumeral t z → ⊥
-  minus-zero n e m z w = none_after t z w rest split_minus (λ k p m'. let q = one_number rest n k m m' in omega arith)
-
-pub plain_none : (t : List ℕ) → (get_or t 0 0 ≡ 45 → ⊥) → ((n : ℕ) → Numeral t n → ⊥) → (z : ℤ) → SignedNumeral t z → ⊥
-plain_none _ first no1 _ (plain m) = no1 _ m
-plain_none _ first no1 _ (minus m p) = first refl

@@ -1,23 +1,22 @@
 ghost use Rattle.std.specs.Prelude.{◌≡◌, ℕ, ◌≤◌, List, length, Decides, MatchOption};
-ghost use Rattle.cursor.specs.Fields.{FieldAt, FieldEnd, NoFieldAt, Plain, past};
+ghost use Rattle.cursor.specs.Fields.{AllPlain, FieldAt, FieldEnd, NoFieldAt, Plain, byte_of, past};
 
+use crate::close::Close;
 use crate::field::Field;
 use crate::reader::Reader;
 
-const SPACE: u8 = 32;
-
-const BREAK: u8 = 10;
-
-// The place of the first space or line break at or after a place, or the end of the text.
-fn field_end(text: &[u8], at: usize) -> usize
-    requires { at ≤ length text.now }
-    ensures { FieldEnd text.now at result }
+// Spaces and line breaks end fields.
+fn ends(byte: u8) -> bool
+    ensures { Decides result (¬ (Plain byte)) }
 {
-    let mut end = at;
-    while end < text.len() && text[end] != SPACE && text[end] != BREAK {
-        end += 1;
-    }
-    end
+    byte == Close::Space.byte() || byte == Close::Break.byte()
+}
+
+// The place of the first byte that ends a field.
+fn field_end(text: &[u8]) -> Option<usize>
+    ensures { MatchOption result (AllPlain text.now) (FieldEnd text.now) }
+{
+    text.iter().position(|&byte| ends(byte))
 }
 
 impl<'a> Reader<'a> {
@@ -34,17 +33,14 @@ impl<'a> Reader<'a> {
         ensures text { result.text.now ≡ self.now.text.now }
         ensures at { result.at ≡ self.now.at }
     {
-        let text = self.text;
-        let at = self.at;
-        Reader { text, at }
+        *self
     }
 
     pub fn place(&self) -> usize
         ensures at { result ≡ self.now.at }
         ensures within { result ≤ length self.now.text.now }
     {
-        let here = self.at;
-        here
+        self.at
     }
 
     // The whole text is read.
@@ -54,50 +50,25 @@ impl<'a> Reader<'a> {
         self.at == self.text.len()
     }
 
-    // Reads the field that stands here before the byte `close`, and passes both. Stays where there is none.
-    fn field_before(&mut self, close: u8) -> Option<Field<'a>>
-        requires { Plain close → ⊥ }
+    // Reads the field that stands here before what ends it, and passes both. Stays where there is none.
+    pub fn field_before(&mut self, close: Close) -> Option<Field<'a>>
         ensures text { self.new.text.now ≡ self.old.text.now }
         ensures reads { MatchOption result
-            (NoFieldAt self.old.text.now self.old.at close × (self.new.at ≡ self.old.at))
-            (λ f. FieldAt self.old.text.now self.old.at f.bytes.now close
+            (NoFieldAt self.old.text.now self.old.at (byte_of close) × (self.new.at ≡ self.old.at))
+            (λ f. FieldAt self.old.text.now self.old.at f.bytes.now (byte_of close)
             × (f.place ≡ self.old.at)
             × (self.new.at ≡ past self.old.at f.bytes.now)) }
     {
-        let text = self.text;
-        let place = self.at;
-        let end = field_end(text, place);
-        if end == place || end == text.len() || text[end] != close {
+        let rest = &self.text[self.at..];
+        let end = field_end(rest)?;
+        if end == 0 || rest[end] != close.byte() {
             return None;
         }
-        self.at = end + 1;
+        let place = self.at;
+        self.at += end + 1;
         Some(Field {
-            bytes: &text[place..end],
+            bytes: &rest[..end],
             place,
         })
-    }
-
-    // Reads the field that stands here before a space, and passes both. Stays where there is none.
-    pub fn field_before_space(&mut self) -> Option<Field<'a>>
-        ensures text { self.new.text.now ≡ self.old.text.now }
-        ensures reads { MatchOption result
-            (NoFieldAt self.old.text.now self.old.at 32 × (self.new.at ≡ self.old.at))
-            (λ f. FieldAt self.old.text.now self.old.at f.bytes.now 32
-            × (f.place ≡ self.old.at)
-            × (self.new.at ≡ past self.old.at f.bytes.now)) }
-    {
-        self.field_before(SPACE)
-    }
-
-    // Reads the field that stands here before a line break, and passes both. Stays where there is none.
-    pub fn field_before_break(&mut self) -> Option<Field<'a>>
-        ensures text { self.new.text.now ≡ self.old.text.now }
-        ensures reads { MatchOption result
-            (NoFieldAt self.old.text.now self.old.at 10 × (self.new.at ≡ self.old.at))
-            (λ f. FieldAt self.old.text.now self.old.at f.bytes.now 10
-            × (f.place ≡ self.old.at)
-            × (self.new.at ≡ past self.old.at f.bytes.now)) }
-    {
-        self.field_before(BREAK)
     }
 }

@@ -1,22 +1,18 @@
-use Rattle.std.proofs.Common.{refl, inl, inr, arith, rules}
-use Rattle.cursor.proofs.Fields.{field_here, no_field_here, past_here}
+use Rattle.std.proofs.Common.{refl, inl, inr}
+use Rattle.std.proofs.lemmas.List.{take_rest}
+use Rattle.cursor.proofs.Fields.{none_left, none_here, not_plain}
 use Rattle.cursor.proofs.reader.Reader.field_before.Goals as goal
-use Rattle.cursor.proofs.reader.Reader.field_before.Goals.{then-end-place-via-then-end-place, then-end-place-via-else-end-place+then-end-text, then-end-place-via-else-end-place+else-end-text+then-text-end}
+use Rattle.cursor.proofs.reader.Reader.field_before.Goals.{then-end-eq0-via-then-end-eq0, then-end-eq0-via-else-end-eq0+then-rest-end}
 
-pub returns-then-end-place : goal.returns-then-end-place
-returns-then-end-place c = record {
-  text = refl;
-  reads = (
-    no_field_here _ _ _ c.field_end-end.ensures _ c.requires (elim c.then-end-place.branch [
-      | then-end-place-via-then-end-place w ↦ inl (search rules)
-      | then-end-place-via-else-end-place+then-end-text w ↦ inr (inl (search rules))
-      | then-end-place-via-else-end-place+else-end-text+then-text-end w ↦ inr (inr (search rules))
-    ]),
-    refl,
-  );
-}
+pub returns-in_err-end-clause-reads : goal.returns-in_err-end-clause-reads
+returns-in_err-end-clause-reads c =
+    rw c.from_residual.ensures (none_left _ _ _ (not_plain c.args.close) (rw take_rest at c.in_err-end.ensures), refl)
 
-pub returns : goal.returns
-returns c =
-    let e = c.field_end-end.ensures in
-    record { text = refl; reads = (field_here _ _ _ e _ c.if-end-place.false (omega (arith, c.if-end-text.false, e.within)) c.if-text-end.false, refl, past_here _ _ _ e) }
+pub returns-then-end-eq0-clause-reads : goal.returns-then-end-eq0-clause-reads
+returns-then-end-eq0-clause-reads c = (
+  none_here _ _ _ (not_plain c.args.close) _ (rw take_rest at c.in_ok-end.ensures) (elim c.then-end-eq0.branch [
+    | then-end-eq0-via-then-end-eq0 w ↦ inl w.if-end-eq0.true
+    | then-end-eq0-via-else-end-eq0+then-rest-end w ↦ inr (rw (take_rest, w.byte.ensures) at w.if-rest-end.true)
+  ]),
+  refl,
+)
