@@ -1,3 +1,3 @@
 pub mod Keeping
-pub mod Checking
 pub mod Narrowing
+pub mod Checking

@@ -10,12 +10,7 @@ use literals::Refusal;
 fn not_ones(weights: &[u16]) -> bool
     ensures { result ≡ not_ones weights.now }
 {
-    for w in weights {
-        if *w != 1 {
-            return true;
-        }
-    }
-    false
+    weights.iter().any(|w| *w != 1)
 }
 
 // Checks a clause as a book states it, with weights and a bound that are all 1. Refused by 2, 1, 3, 4 or 5, the first in this order.

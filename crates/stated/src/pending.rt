@@ -1,19 +1,20 @@
-ghost use Rattle.std.specs.Prelude.{◌≡◌, ◌≤◌, length};
+ghost use Rattle.std.specs.Prelude.{◌≡◌};
 
 mod methods;
 
+use bounded::Bounded;
 use entries::RuleKind;
 
-// A rule whose lines are being read. A rule has 16 terms at most, so that a seventeenth says as much as all that follow it.
-// A weight or a switch that no rule may have stands here as 0, which no rule may have either.
+// A rule has 16 terms at most, so that a seventeenth says as much as all that follow it.
+const KEPT: usize = 17;
+
+// A rule whose lines are being read, with its first 17 terms. Weights and switches stand in two lists, since a rule is made from
+// two slices. A weight or a switch that no rule may have stands here as 0, which no rule may have either: the rule is then
+// refused by the same number as for what is written.
 #[derive(Clone, Copy)]
 pub struct Pending {
     kind: RuleKind,
     bound: u32,
-    count: usize,
-    weights: [u16; 17],
-    numbers: [i16; 17],
-    ghost wide: { length weights ≡ 17 },
-    ghost long: { length numbers ≡ 17 },
-    ghost few: { count ≤ 17 },
+    weights: Bounded<u16, KEPT>,
+    numbers: Bounded<i16, KEPT>,
 }

@@ -1,16 +1,16 @@
-ghost use Rattle.std.specs.Prelude.{◌≡◌, take};
+ghost use Rattle.std.specs.Prelude.{◌≡◌};
+ghost use Rattle.bounded.specs.Held.{held};
 ghost use Rattle.stated.specs.Pendings.{Holds};
 ghost use Rattle.stated.specs.Stated.{Stated, begun, grown, small_switch, small_weight};
 
 use crate::pending::Pending;
+use bounded::Bounded;
 use entries::{Entry, RuleKind};
-
-const MOST: usize = 17;
 
 fn small_weight(weight: u32) -> u16
     ensures { result ≡ small_weight weight }
 {
-    if weight > 65_535 { 0 } else { weight as u16 }
+    u16::try_from(weight).unwrap_or(0)
 }
 
 fn small_switch(switch: i32) -> i16
@@ -27,34 +27,23 @@ impl Pending {
     pub fn begin(entry: Entry) -> Pending
         ensures { Holds result (begun entry) }
     {
-        Pending {
+        let none = Pending {
             kind: entry.kind,
             bound: entry.bound,
-            count: 1,
-            weights: [small_weight(entry.weight); 17],
-            numbers: [small_switch(entry.switch); 17],
-        }
+            weights: Bounded::new(0),
+            numbers: Bounded::new(0),
+        };
+        none.with(entry)
     }
 
     // The rule with the term of one line more.
-    pub fn with(self, entry: Entry) -> Pending
+    pub fn with(mut self, entry: Entry) -> Pending
         ensures { (s : Stated) → Holds self s → Holds result (grown s entry) }
     {
-        let count = self.count;
-        if count >= MOST {
-            return self;
-        }
-        let mut weights = self.weights;
-        let mut numbers = self.numbers;
-        weights[count] = small_weight(entry.weight);
-        numbers[count] = small_switch(entry.switch);
-        Pending {
-            kind: self.kind,
-            bound: self.bound,
-            count: count + 1,
-            weights,
-            numbers,
-        }
+        // Where 17 are kept, the lists stay as they are.
+        let _ = self.weights.push(small_weight(entry.weight));
+        let _ = self.numbers.push(small_switch(entry.switch));
+        self
     }
 
     pub fn kind(&self) -> RuleKind
@@ -70,14 +59,14 @@ impl Pending {
     }
 
     pub fn weights(&self) -> &[u16]
-        ensures { result.now ≡ take self.now.count self.now.weights }
+        ensures { result.now ≡ held self.now.weights }
     {
-        &self.weights[..self.count]
+        self.weights.as_slice()
     }
 
     pub fn numbers(&self) -> &[i16]
-        ensures { result.now ≡ take self.now.count self.now.numbers }
+        ensures { result.now ≡ held self.now.numbers }
     {
-        &self.numbers[..self.count]
+        self.numbers.as_slice()
     }
 }
