@@ -1,5 +1,5 @@
 -- What is told of a standing switch, and of a free one.
-use Rattle.std.proofs.Common.{◌≡◌, ℕ, ◌+◌, ◌-◌, ◌<◌, ◌≤◌, Bool, true, false, cond, not, ◌&&◌, ◌||◌, ltb, ◌⊎◌, List, length, get_or, Some, None, Decides, sym, refl, ap, ◌∙◌, subst, inl, inr, ⊎_elim, arith}
+use Rattle.std.proofs.Common.{◌≡◌, ℕ, ◌+◌, ◌-◌, ◌<◌, ◌≤◌, Bool, true, false, cond, not, ◌&&◌, ◌||◌, ltb, ◌⊎◌, List, length, get_or, Some, None, Option, Decides, sym, refl, ap, ◌∙◌, subst, inl, inr, ⊎_elim, arith}
 use Rattle.std.proofs.lemmas.Bool.{le-ltb}
 use Rattle.bits.specs.Words.{bit}
 use Rattle.literals.specs.declared.literal.Literal.{Literal}
@@ -97,7 +97,7 @@ module _ (rules : List Meaning) (t : List Step) (place word : ℕ) (chosen : Set
           = (collected l).1 (record { place = r.place; step = r.step; at = r.at; behind = numbered_low r.at; is = refl; chosen = r.chosen; reached = r.reached }) in
           subst (λ (k : ℕ). free_switch chosen k ≡ false) r.switch (sym (free_is chosen l) ∙ taken (stands chosen l) (stands chosen (opposite l)) h)
 
-  pub explains : (n rule : ℕ) (x : Step) → Because rules t → Numbered t place x → x.literal.switch ≡ n → x.rule ≡ rule → Explains rules t n rule word
+  pub explains : (n : ℕ) (rule : Option ℕ) (x : Step) → Because rules t → Numbered t place x → x.literal.switch ≡ n → x.rule ≡ rule → Explains rules t n rule word
   explains n rule x b at e by =
       record {
         place = place;

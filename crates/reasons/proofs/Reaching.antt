@@ -1,13 +1,14 @@
 -- Going down the trail from a place marks exactly the places that it reaches.
-use Rattle.std.proofs.Common.{◌≡◌, ℕ, zero, suc, ◌+◌, ◌<◌, ◌≤◌, true, false, ◌⊎◌, List, [], ◌∷◌, take, sym, refl, ap, ◌∙◌, subst, inl, inr, ⊎_elim, arith}
+use Rattle.std.proofs.Common.{◌≡◌, ℕ, zero, suc, ◌+◌, ◌<◌, ◌≤◌, true, false, ◌⊎◌, List, [], ◌∷◌, take, Some, None, sym, refl, ap, ◌∙◌, subst, inl, inr, ⊎_elim, arith}
 use Rattle.std.proofs.lemmas.Bool.{cases_eq}
+use Rattle.std.proofs.lemmas.Option.{none-some, same_Some}
 use Rattle.literals.specs.declared.literal.Literal.{Literal}
 use Rattle.literals.specs.declared.setting.Setting.{Setting}
 use Rattle.literals.specs.Settings.{stands, plus, nothing}
 use Rattle.literals.proofs.Standing.{nothing-stands, plus-has, plus_keeps, plus_cases}
 use Rattle.lists.specs.Lists.{distinct}
 use Rattle.rules.specs.Scans.{Numbered, first, later}
-use Rattle.rules.proofs.Numbers.{numbered_low, numbered_one, numbered_take}
+use Rattle.rules.proofs.Numbers.{numbered_one, numbered_take}
 use Rattle.shelf.specs.Meanings.{Meaning}
 use Rattle.runs.specs.declared.step.Step.{Step}
 use Rattle.runs.specs.Views.{literals_on}
@@ -81,7 +82,7 @@ module _ (rules : List Meaning) (t : List Step) where
       later_chosen : {l : Literal} → Chosen rules t p i l → Chosen rules t p m l
       later_chosen c = record { place = c.place; step = c.step; at = c.at; behind = let b = c.behind in omega arith; is = c.is; chosen = c.chosen; reached = c.reached }
 
-      same_chosen : (s : Setting) → (Reaches rules t p i → x.rule ≡ 0 → ⊥) → Collected rules t p i s → Collected rules t p m s
+      same_chosen : (s : Setting) → (Reaches rules t p i → x.rule ≡ None → ⊥) → Collected rules t p i s → Collected rules t p m s
       same_chosen s dead h l = (
         (λ e. later_chosen ((h l).0 e)),
         (λ (c : Chosen rules t p m l). (h l).1 (narrow c)),
@@ -101,14 +102,13 @@ module _ (rules : List Meaning) (t : List Step) where
         pub unmarked : stands marked x.literal ≡ false → AllMarked rules t p m marked × Collected rules t p m chosen
         unmarked e = (same_marked marked (λ k r l. true_false (here r) e) all, same_chosen chosen (λ r z. true_false (here r) e) some)
 
-        pub at_chosen : stands marked x.literal ≡ true → x.rule ≡ 0 → AllMarked rules t p m marked × Collected rules t p m (plus chosen x.literal)
+        pub at_chosen : stands marked x.literal ≡ true → x.rule ≡ None → AllMarked rules t p m marked × Collected rules t p m (plus chosen x.literal)
         at_chosen e z = (same_marked marked (λ k r l. nowhere k l) all, grown)
           where
             nowhere : (k : ℕ) → Leads rules t i k → ⊥
             nowhere k l =
                 let same : l.from ≡ x = numbered_one l.at at in
-                let zero_rule : l.from.rule ≡ 0 = ap (λ (y : Step). y.rule) same ∙ z in
-                let low = numbered_low l.mentions.numbered in omega arith
+                none-some l.rule (sym z ∙ ap (λ (y : Step). y.rule) (sym same) ∙ l.by)
 
             itself_chosen : (l : Literal) → x.literal ≡ l → Chosen rules t p m l
             itself_chosen l q = record { place = i; step = x; at = at; behind = omega arith; is = q; chosen = z; reached = marked_reaches ((all i x at).0 e) }
@@ -124,22 +124,22 @@ module _ (rules : List Meaning) (t : List Step) where
                   (split c.place c.behind)),
             )
 
-        pub at_locked : (marked' : Setting) → stands marked x.literal ≡ true → (x.rule ≡ 0 → ⊥) → Marks rules (take m t) x.rule marked marked'
+        pub at_locked : (rule : ℕ) (marked' : Setting) → stands marked x.literal ≡ true → x.rule ≡ Some rule → Marks rules (take m t) rule marked marked'
             → AllMarked rules t p m marked' × Collected rules t p m chosen
-        at_locked marked' e z marks = (more, same_chosen chosen (λ r q. z q) some)
+        at_locked rule marked' e z marks = (more, same_chosen chosen (λ r q. none-some rule (sym q ∙ z)) some)
           where
             more : AllMarked rules t p m marked'
             more k y n = (
-              (λ h. ⊎_elim (λ q. wider ((all k y n).0 q)) (λ (w : Named rules (take m t) x.rule y.literal). led w) ((marks y.literal).0 h)),
+              (λ h. ⊎_elim (λ q. wider ((all k y n).0 q)) (λ (w : Named rules (take m t) rule y.literal). led w) ((marks y.literal).0 h)),
               (λ h. back h),
             )
               where
-                led : Named rules (take m t) x.rule y.literal → Marked rules t p m k
+                led : Named rules (take m t) rule y.literal → Marked rules t p m k
                 led w =
                     let there = taken m t w.at in
                     let same : w.place ≡ k = one_place t once there.0 n (ap (λ (l : Literal). l.switch) w.is) in
                     let high = there.1 in
-                    inr (i, omega arith, marked_reaches ((all i x at).0 e), record { from = x; at = at; to = y; earlier = omega arith; there = n; mentions = w.mentions })
+                    inr (i, omega arith, marked_reaches ((all i x at).0 e), record { from = x; at = at; to = y; earlier = omega arith; there = n; rule = rule; by = z; mentions = w.mentions })
 
                 back : Marked rules t p m k → stands marked' y.literal ≡ true
                 back (inl q) = (marks y.literal).1 (inl ((all k y n).1 (inl q)))
@@ -149,8 +149,9 @@ module _ (rules : List Meaning) (t : List Step) where
                     let to : l.to ≡ y = numbered_one l.there n in
                     let low = l.earlier in
                     let near : k ≤ m = omega arith in
-                    let says : Mentions rules x.rule y.literal.switch
-                    = subst (λ (w : Step). Mentions rules x.rule w.literal.switch) to (subst (λ (w : Step). Mentions rules w.rule l.to.literal.switch) from l.mentions) in
+                    let same : l.rule ≡ rule = same_Some l.rule rule (sym l.by ∙ ap (λ (w : Step). w.rule) from ∙ z) in
+                    let says : Mentions rules rule y.literal.switch
+                    = subst (λ (w : Step). Mentions rules rule w.literal.switch) to (subst (λ (r : ℕ). Mentions rules r l.to.literal.switch) same l.mentions) in
                     (marks y.literal).1 (inr (record { place = k; step = y; at = numbered_take m n near; is = refl; mentions = says })))
                     (λ lt'. (marks y.literal).1 (inl ((all k y n).1 (inr (q, lt', r, l)))))
                     (split q lt)

@@ -48,7 +48,7 @@ pub record Chosen (rules : List Meaning) (t : List Step) (p m : ℕ) (l : Litera
   pub at : Numbered t place step
   pub behind : m < place
   pub is : step.literal ≡ l
-  pub chosen : step.rule ≡ 0
+  pub chosen : step.rule ≡ None
   pub reached : Reaches rules t p place
 
 abbrev pub Collected : List Meaning → List Step → ℕ → ℕ → Setting → Type 0

@@ -10,14 +10,14 @@ ghost use Rattle.runs.specs.Runs.{Traced};
 ghost use Rattle.runs.specs.Views.{literals_on};
 
 use literals::{Literal, Refusal, Setting};
-use runs::{Step, laws_over_runs};
+use runs::Step;
 use shelf::Shelf;
 
-// The rule that locked a switch, or 0 where it was chosen, and the chosen switches that it is reached from, as a word in which
+// The rule that locked a switch, none where it was chosen, and the chosen switches that it is reached from, as a word in which
 // switch n is bit n - 1.
-#[derive(Clone, Copy)]
+#[derive(Clone, Copy, Debug, PartialEq, Eq, Hash)]
 pub struct Why {
-    pub rule: usize,
+    pub rule: Option<usize>,
     pub word: u64,
 }
 
@@ -35,7 +35,6 @@ fn place_of(steps: &[Step], switch: u32) -> Option<usize>
 
 // There is such a rule, and it mentions the literal's switch.
 fn mentions<S: Shelf>(shelf: &S, rule: usize, literal: Literal) -> bool
-    requires sound { S.Shelf.sound shelf.now }
     ensures { Decides result (Mentions (S.Shelf.rules shelf.now) rule literal.switch) }
 {
     match shelf.mentions(rule, literal.switch()) {
@@ -46,7 +45,6 @@ fn mentions<S: Shelf>(shelf: &S, rule: usize, literal: Literal) -> bool
 
 // The marked literals, and those of these steps that the rule mentions.
 fn mark<S: Shelf>(shelf: &S, rule: usize, steps: &[Step], mut marked: Setting) -> Setting
-    requires sound { S.Shelf.sound shelf.now }
     ensures { Marks (S.Shelf.rules shelf.now) steps.now rule marked result }
 {
     for step in steps {
@@ -60,7 +58,6 @@ fn mark<S: Shelf>(shelf: &S, rule: usize, steps: &[Step], mut marked: Setting) -
 // The chosen literals that a place reaches: down the trail from it, a marked literal that a rule locked marks the earlier ones
 // that the rule mentions.
 fn reached<S: Shelf>(shelf: &S, steps: &[Step], place: usize) -> Setting
-    requires sound { S.Shelf.sound shelf.now }
     requires once { distinct (literals_on steps.now) ≡ true }
     requires place { place < length steps.now }
     ensures { Collected (S.Shelf.rules shelf.now) steps.now (place + 1) 0 result }
@@ -70,10 +67,9 @@ fn reached<S: Shelf>(shelf: &S, steps: &[Step], place: usize) -> Setting
     for i in (0..place + 1).rev() {
         let step = steps[i];
         if marked.stands(step.literal) {
-            if step.rule == 0 {
-                chosen = chosen.with(step.literal);
-            } else {
-                marked = mark(shelf, step.rule, &steps[0..i], marked);
+            match step.rule {
+                None => chosen = chosen.with(step.literal),
+                Some(rule) => marked = mark(shelf, rule, &steps[0..i], marked),
             }
         }
     }
@@ -82,7 +78,6 @@ fn reached<S: Shelf>(shelf: &S, steps: &[Step], place: usize) -> Setting
 
 // Why a switch stands on the trail of a session over this shelf. Refused by 1, or by 29 where it is free.
 pub fn explain<S: Shelf>(shelf: &S, steps: &[Step], switch: u32) -> Result<Why, Refusal>
-    requires sound { S.Shelf.sound shelf.now }
     requires trail { Traced (S.Shelf.rules shelf.now) steps.now }
     ensures refused { refusal_of result ≡ first_failed (why_checks steps.now switch) }
     ensures explains { IfOk result (λ w. Explains (S.Shelf.rules shelf.now) steps.now switch w.rule w.word) }
@@ -90,7 +85,6 @@ pub fn explain<S: Shelf>(shelf: &S, steps: &[Step], switch: u32) -> Result<Why, 
     if switch < 1 || switch > 64 {
         return Err(Refusal::OutOfRange);
     }
-    shelf.laws();
     match place_of(steps, switch) {
         None => Err(Refusal::SwitchFree),
         Some(place) => Ok(Why {

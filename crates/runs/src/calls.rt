@@ -1,7 +1,7 @@
 use literals::Refusal;
 
 // What a session may do next.
-#[derive(Clone, Copy)]
+#[derive(Clone, Copy, Debug, PartialEq, Eq, Hash)]
 pub enum State {
     // A literal was chosen, or the session was just opened: what follows from it is not on the trail yet.
     Unsettled,
@@ -14,7 +14,7 @@ pub enum State {
 }
 
 // What a session is asked to do. A call that takes a receipt has its rule and its level.
-#[derive(Clone, Copy)]
+#[derive(Clone, Copy, Debug, PartialEq, Eq, Hash)]
 pub enum Call {
     Settle,
     // A literal, by its number.
@@ -27,13 +27,15 @@ pub enum Call {
     Close(usize, u8),
 }
 
-// What a call answers.
-#[derive(Clone, Copy)]
-pub enum Answer {
+// What a call that is done answers.
+#[derive(Clone, Copy, Debug, PartialEq, Eq, Hash)]
+pub enum Reply {
     Done,
     // By how many literals the trail grew.
     Grown(u8),
     // The rule that is broken, the level, the letter of the shelf that holds the rule.
     Clash(usize, u8, char),
-    Refused(Refusal),
 }
+
+// What a call answers: its reply, or why it was refused.
+pub type Answer = Result<Reply, Refusal>;

@@ -17,7 +17,6 @@ bounds-steps-place-in-Some g c = place_within c.args.steps.now c.in-Some.place c
 pub reached-requires : goal.reached-requires
 reached-requires g c =
     record {
-      sound = c.requires.sound;
       once = trail_once (g.S.Shelf.rules c.args.shelf.now) c.args.steps.now c.requires.trail;
       place = place_within c.args.steps.now c.in-Some.place c.args.switch c.in-Some.ensures;
     }
@@ -34,5 +33,5 @@ returns-in-Some g c =
     record {
       refused = standing_told t c.args.switch (λ h. omega arith) (λ h. omega arith) (c.in-Some.place + 1) there.0 there.1 there.2;
       explains = explains rules t (c.in-Some.place + 1) c.switches.result c.reached.result c.reached.ensures c.switches.ensures c.args.switch _ there.0
-          (trail_because rules t c.laws.ensures.lawful c.requires.trail) there.1 there.2 by;
+          (trail_because rules t (g.met.S.Shelf.lawful c.args.shelf.now) c.requires.trail) there.1 there.2 by;
     }

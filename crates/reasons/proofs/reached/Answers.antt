@@ -23,28 +23,28 @@ loop-i-preserved g c =
     let off : stands c.loop-i.marked c.index-steps-i.result.literal ≡ false = cc in
     unmarked (g.S.Shelf.rules c.args.shelf.now) c.args.steps.now c.requires.once (c.args.place + 1) (i - 1) i c.index-steps-i.result at.0 at.1 c.loop-i.marked c.loop-i.chosen c.loop-i.invariant.0 c.loop-i.invariant.1 off
 
-pub loop-i-preserved-then-step-eq0 : goal.loop-i-preserved-then-step-eq0
-loop-i-preserved-then-step-eq0 g c =
+pub loop-i-preserved-in-None : goal.loop-i-preserved-in-None
+loop-i-preserved-in-None g c =
     let rules = g.S.Shelf.rules c.args.shelf.now in
     let i = c.loop-i.i in
     let low : i ≤ c.args.place + 1 = omega arith in
     let at = down c.args.steps.now c.args.place i c.index-steps-i.result c.loop-i-test.true low c.requires.place c.index-steps-i.is in
     let on : stands c.loop-i.marked c.index-steps-i.result.literal ≡ true = cc in
-    let both = at_chosen rules c.args.steps.now c.requires.once (c.args.place + 1) (i - 1) i c.index-steps-i.result at.0 at.1 c.loop-i.marked c.loop-i.chosen c.loop-i.invariant.0 c.loop-i.invariant.1 on c.if-step-eq0.true in
+    let both = at_chosen rules c.args.steps.now c.requires.once (c.args.place + 1) (i - 1) i c.index-steps-i.result at.0 at.1 c.loop-i.marked c.loop-i.chosen c.loop-i.invariant.0 c.loop-i.invariant.1 on c.in-None.is in
     let grown : plus c.loop-i.chosen c.index-steps-i.result.literal ≡ c.with-chosen.result = cc in
     (both.0, subst (Collected rules c.args.steps.now (c.args.place + 1) (i - 1)) grown both.1)
 
-pub loop-i-preserved-else-step-eq0 : goal.loop-i-preserved-else-step-eq0
-loop-i-preserved-else-step-eq0 g c =
+pub loop-i-preserved-in-Some : goal.loop-i-preserved-in-Some
+loop-i-preserved-in-Some g c =
     let rules = g.S.Shelf.rules c.args.shelf.now in
     let i = c.loop-i.i in
     let low : i ≤ c.args.place + 1 = omega arith in
     let at = down c.args.steps.now c.args.place i c.index-steps-i.result c.loop-i-test.true low c.requires.place c.index-steps-i.is in
     let on : stands c.loop-i.marked c.index-steps-i.result.literal ≡ true = cc in
     let same : i - 1 - 0 ≡ i - 1 = omega arith in
-    let marks : Marks rules (take (i - 1) c.args.steps.now) c.index-steps-i.result.rule c.loop-i.marked c.mark-marked.result
-    = subst (λ (k : ℕ). Marks rules (take k c.args.steps.now) c.index-steps-i.result.rule c.loop-i.marked c.mark-marked.result) same c.mark-marked.ensures in
-    at_locked rules c.args.steps.now c.requires.once (c.args.place + 1) (i - 1) i c.index-steps-i.result at.0 at.1 c.loop-i.marked c.loop-i.chosen c.loop-i.invariant.0 c.loop-i.invariant.1 c.mark-marked.result on c.if-step-eq0.false marks
+    let marks : Marks rules (take (i - 1) c.args.steps.now) c.in-Some.rule c.loop-i.marked c.mark-marked.result
+    = subst (λ (k : ℕ). Marks rules (take k c.args.steps.now) c.in-Some.rule c.loop-i.marked c.mark-marked.result) same c.mark-marked.ensures in
+    at_locked rules c.args.steps.now c.requires.once (c.args.place + 1) (i - 1) i c.index-steps-i.result at.0 at.1 c.loop-i.marked c.loop-i.chosen c.loop-i.invariant.0 c.loop-i.invariant.1 c.in-Some.rule c.mark-marked.result on c.in-Some.is marks
 
 pub returns : goal.returns
 returns g c =
