@@ -15,6 +15,7 @@ use Rattle.shelf.specs.Meanings.{Meaning, Answers}
 use Rattle.runs.specs.declared.step.Step.{Step}
 use Rattle.runs.specs.declared.calls.State.{State}
 use Rattle.runs.specs.declared.calls.State.TheVariants.{Unsettled, Settled, Clashed, Shut}
+use Rattle.runs.specs.declared.calls.Clash.{Clash}
 use Rattle.runs.specs.declared.calls.Call.{Call}
 use Rattle.runs.specs.declared.calls.Call.TheVariants.{Settle, Choose, Back, BackFromClash, Close}
 use Rattle.runs.specs.declared.calls.Reply.TheVariants.{Done}
@@ -73,8 +74,8 @@ choosable v l p =
 pub below_back : (v : View) (k : ℕ) → None ≡ first_failed (checks v (Back k)) → k < v.level
 below_back v k p = leb-false v.level k (passed (checks v (Back k)) p).1.1.1.0
 
-pub below_clash : (v : View) (rule level k : ℕ) → None ≡ first_failed (checks v (BackFromClash rule level k)) → k < v.level
-below_clash v rule level k p = leb-false v.level k (passed (checks v (BackFromClash rule level k)) p).1.1.1.0
+pub below_clash : (v : View) (x : Clash) (k : ℕ) → None ≡ first_failed (checks v (BackFromClash x k)) → k < v.level
+below_clash v x k p = leb-false v.level k (passed (checks v (BackFromClash x k)) p).1.1.1.0
 
 -- ---- one call
 
@@ -153,9 +154,9 @@ module _ (rules : List Meaning) where
   did_keeps c v w Settle a i p d = subst (λ (ns : List ℤ). Kept rules ns w) (sym (settle_chosen c v w a d.verdict d.said)) (settle_keeps c v w a i d)
   did_keeps c v w (Choose n) a i p d = subst (λ (ns : List ℤ). Kept rules ns w) (sym (done_chosen c (Choose n) a d.answer)) (choose_keeps c v w n a i p d)
   did_keeps c v w (Back k) a i p d = subst (λ (ns : List ℤ). Kept rules ns w) (sym (done_chosen c (Back k) a d.answer)) (back_keeps c v w k a i (below_back v k p) d)
-  did_keeps c v w (BackFromClash rule level k) a i p d =
-      subst (λ (ns : List ℤ). Kept rules ns w) (sym (done_chosen c (BackFromClash rule level k) a d.answer)) (back_keeps c v w k a i (below_clash v rule level k p) d)
-  did_keeps c v w (Close rule level) a i p d = subst (λ (ns : List ℤ). Kept rules ns w) (sym (done_chosen c (Close rule level) a d.answer)) (close_keeps c v w a i d)
+  did_keeps c v w (BackFromClash x k) a i p d =
+      subst (λ (ns : List ℤ). Kept rules ns w) (sym (done_chosen c (BackFromClash x k) a d.answer)) (back_keeps c v w k a i (below_clash v x k p) d)
+  did_keeps c v w (Close x) a i p d = subst (λ (ns : List ℤ). Kept rules ns w) (sym (done_chosen c (Close x) a d.answer)) (close_keeps c v w a i d)
 
   does_keeps : (c : List ℤ) (v w : View) (call : Call) (a : Answered) → Kept rules c v → Does rules v call a w → Kept rules (chosen_after c (event call a)) w
   does_keeps c v w call a i (refused e p q r) =

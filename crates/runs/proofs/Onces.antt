@@ -20,9 +20,9 @@ use Rattle.runs.specs.declared.calls.State.{State}
 use Rattle.runs.specs.declared.calls.State.TheVariants.{Unsettled}
 use Rattle.runs.specs.declared.calls.Call.{Call}
 use Rattle.runs.specs.declared.calls.Call.TheVariants.{Settle, Choose, Back, BackFromClash, Close}
-use Rattle.runs.specs.declared.calls.Reply.TheVariants.{Done, Grown, Clash}
+use Rattle.runs.specs.declared.calls.Reply.TheVariants as reply
 use Rattle.runs.specs.Views.{View, standing, step}
-use Rattle.runs.specs.Calls.{Answered, checks, Settles, quiet, broken, locks, state_by, Said, SettledBy, Chose, Did, Does, refused, done}
+use Rattle.runs.specs.Calls.{Answered, clash, checks, Settles, quiet, broken, locks, state_by, Said, SettledBy, Chose, Did, Does, refused, done}
 use Rattle.runs.specs.Laws.{One}
 use Rattle.runs.proofs.Verdicts.{answers_one, answers_some}
 use Rattle.runs.proofs.Trails.{standing-push}
@@ -113,8 +113,8 @@ module _ (rules : List Meaning) (v : View) where
   after e = record { state = state_by e.verdict; level = v.level; trail = e.trail }
 
   answered : (e : Ends rules v.level v.trail) → (d : Verdict) → e.verdict ≡ d → Settles rules v.level v.trail e.trail d → (a : Answered) × Said rules v (after e) d a
-  answered e Quiet q s = (Ok (Grown e.longer.0), (e.longer.0, e.longer.1, refl))
-  answered e (Broken r) q s = let b = settles_answer rules v.level s in (Ok (Clash r v.level b.rule.letter), record { rule = b.rule; numbered = b.numbered; is = refl })
+  answered e Quiet q s = (Ok (reply.Grown e.longer.0), (e.longer.0, e.longer.1, refl))
+  answered e (Broken r) q s = let b = settles_answer rules v.level s in (Ok (reply.Clash (clash r v.level) b.rule.letter), record { rule = b.rule; numbered = b.numbered; is = refl })
   answered e (Forced r l) q s = absurd (e.final r l q)
 
   some_settle : Outcome (SettledBy rules v)
@@ -127,8 +127,8 @@ module _ (rules : List Meaning) (v : View) where
   grown-same m n k j p q = omega arith
 
   said_one : (w x : View) (d : Verdict) (a b : Answered) → w.trail ≡ x.trail → Said rules v w d a → Said rules v x d b → a ≡ b
-  said_one w x Quiet a b e p q = p.2 ∙ ap (λ (n : ℕ). Ok (Grown n)) (grown-same p.0 q.0 (length v.trail) (length x.trail) (p.1 ∙ ap length e) q.1) ∙ sym q.2
-  said_one w x (Broken r) a b e p q = p.is ∙ ap (λ (m : Meaning). Ok (Clash r v.level m.letter)) (numbered_one p.numbered q.numbered) ∙ sym q.is
+  said_one w x Quiet a b e p q = p.2 ∙ ap (λ (n : ℕ). Ok (reply.Grown n)) (grown-same p.0 q.0 (length v.trail) (length x.trail) (p.1 ∙ ap length e) q.1) ∙ sym q.2
+  said_one w x (Broken r) a b e p q = p.is ∙ ap (λ (m : Meaning). Ok (reply.Clash (clash r v.level) m.letter)) (numbered_one p.numbered q.numbered) ∙ sym q.is
   said_one w x (Forced r l) a b e p q = absurd p
 
   one_settle : Unique (SettledBy rules v)
@@ -141,7 +141,7 @@ module _ (rules : List Meaning) (v : View) where
   -- ---- choosing
 
   some_choose : (n : ℤ) → no_literal n ≡ false → Outcome (Chose v n)
-  some_choose n h = let l = literal_there n h in (Ok Done, _, record { literal = l.0; named = l.1; answer = refl; view = refl })
+  some_choose n h = let l = literal_there n h in (Ok reply.Done, _, record { literal = l.0; named = l.1; answer = refl; view = refl })
 
   one_choose : (n : ℤ) → Unique (Chose v n)
   one_choose n a b w x p q =
@@ -153,16 +153,16 @@ module _ (rules : List Meaning) (v : View) where
   some_did : (c : Call) → None ≡ first_failed (checks v c) → Outcome (Did rules v c)
   some_did Settle p = some_settle
   some_did (Choose n) p = some_choose n (passed (checks v (Choose n)) p).0
-  some_did (Back k) p = (Ok Done, _, record { answer = refl; view = refl })
-  some_did (BackFromClash rule level k) p = (Ok Done, _, record { answer = refl; view = refl })
-  some_did (Close rule level) p = (Ok Done, _, record { answer = refl; view = refl })
+  some_did (Back k) p = (Ok reply.Done, _, record { answer = refl; view = refl })
+  some_did (BackFromClash x k) p = (Ok reply.Done, _, record { answer = refl; view = refl })
+  some_did (Close x) p = (Ok reply.Done, _, record { answer = refl; view = refl })
 
   one_did : (c : Call) → Unique (Did rules v c)
   one_did Settle a b w x p q = one_settle a b w x p q
   one_did (Choose n) a b w x p q = one_choose n a b w x p q
   one_did (Back k) a b w x p q = (p.answer ∙ sym q.answer, p.view ∙ sym q.view)
-  one_did (BackFromClash rule level k) a b w x p q = (p.answer ∙ sym q.answer, p.view ∙ sym q.view)
-  one_did (Close rule level) a b w x p q = (p.answer ∙ sym q.answer, p.view ∙ sym q.view)
+  one_did (BackFromClash y k) a b w x p q = (p.answer ∙ sym q.answer, p.view ∙ sym q.view)
+  one_did (Close y) a b w x p q = (p.answer ∙ sym q.answer, p.view ∙ sym q.view)
 
   one_refused : (c : Call) (e : Refusal) → first_failed (checks v c) ≡ Some e → (a : Answered) (w : View) → Does rules v c a w → (a ≡ Err e) × (w ≡ v)
   one_refused c e p a w (refused d q r s) = let same : d ≡ e = cc in (r ∙ ap Err same, s)

@@ -35,8 +35,8 @@ abbrev pub accepted : List ℤ → Call → List ℤ
 accepted c Settle = c
 accepted c (Choose n) = c ++ n ∷ []
 accepted c (Back k) = take k c
-accepted c (BackFromClash rule level k) = take k c
-accepted c (Close rule level) = c
+accepted c (BackFromClash x k) = take k c
+accepted c (Close x) = c
 
 abbrev pub chosen_after : List ℤ → Event → List ℤ
 chosen_after c e = go e.answer
@@ -44,7 +44,7 @@ chosen_after c e = go e.answer
     go : Answered → List ℤ
     go (Ok Done) = accepted c e.call
     go (Ok (Grown n)) = c
-    go (Ok (Clash rule level letter)) = c
+    go (Ok (Clash x letter)) = c
     go (Err r) = c
 
 abbrev pub chosen_from : List ℤ → List Event → List ℤ
