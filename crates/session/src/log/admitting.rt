@@ -1,8 +1,6 @@
 ghost use Rattle.std.specs.Prelude.{◌≡◌, not, ◌&&◌, if◌then◌else◌, Some, None, ◌==◌, nat_le};
-ghost use Rattle.bounded.specs.Held.{held};
 ghost use Rattle.literals.specs.Refusals.{first_failed, refusal_of};
 ghost use Rattle.runs.specs.Calls.{checks, input_checks};
-ghost use Rattle.runs.specs.Views.{standing};
 ghost use Rattle.session.specs.Logs.{view_of};
 ghost use Rattle.told.specs.Tellings.{free_checks};
 
@@ -40,7 +38,6 @@ fn check_level(k: u32) -> Result<(), Refusal>
 impl Log {
     // What the call and the state together decide.
     pub(crate) fn admit(&self, call: Call) -> Result<(), Refusal>
-        requires { self.now.standing ≡ standing (held self.now.steps) }
         ensures { refusal_of result ≡ first_failed (checks (view_of self.now) call) }
     {
         check_input(call)?;
