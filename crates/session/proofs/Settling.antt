@@ -63,9 +63,9 @@ pub start : (rules : List Meaning) (g : Log) → Going rules g g
 start rules g = record { settles = λ u v s. s; state = refl; level = refl }
 
 pub again : (rules : List Meaning) (g h i : Log) (r : ℕ) (l : Literal) → Going rules g h → Answers rules (standing (held h.steps)) (Forced r l)
-    → held i.steps ≡ held h.steps ++ step l h.level r ∷ [] → i.state ≡ h.state → i.level ≡ h.level → Going rules g i
+    → held i.steps ≡ held h.steps ++ step l h.level (Some r) ∷ [] → i.state ≡ h.state → i.level ≡ h.level → Going rules g i
 again rules g h i r l o a steps state level =
-    let e : held i.steps ≡ held h.steps ++ step l g.level r ∷ [] = steps ∙ ap (λ (n : ℕ). held h.steps ++ step l n r ∷ []) o.level in
+    let e : held i.steps ≡ held h.steps ++ step l g.level (Some r) ∷ [] = steps ∙ ap (λ (n : ℕ). held h.steps ++ step l n (Some r) ∷ []) o.level in
     record {
       settles = λ u v s. o.settles u v (locks a (subst (λ (t : List Step). Settles rules g.level t u v) e s));
       state = state ∙ o.state;

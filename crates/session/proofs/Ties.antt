@@ -24,11 +24,11 @@ use Rattle.told.proofs.Telling.{took_back}
 use Rattle.runs.specs.declared.step.Step.{Step}
 use Rattle.runs.specs.declared.calls.Call.{Call}
 use Rattle.runs.specs.declared.calls.Call.TheVariants.{Settle, Choose, Back, BackFromClash, Close}
-use Rattle.runs.specs.declared.calls.Answer.{Answer}
-use Rattle.runs.specs.declared.calls.Answer.TheVariants as answer
+use Rattle.runs.specs.declared.calls.Clash.{Clash}
+use Rattle.runs.specs.declared.calls.Reply.TheVariants as reply
 use Rattle.runs.specs.declared.calls.State.TheVariants.{Unsettled, Settled, Clashed, Shut}
 use Rattle.runs.specs.Views.{View, opened, literals_on, standing, step, up_to}
-use Rattle.runs.specs.Calls.{checks, input_checks, state_checks, Settles, quiet, broken, locks, Does, refused, done as does}
+use Rattle.runs.specs.Calls.{Answered, clash, checks, input_checks, state_checks, Settles, quiet, broken, locks, Does, refused, done as does}
 use Rattle.runs.specs.Runs.{event, Run, Traced, none, then}
 use Rattle.runs.proofs.Keeping.{run_keeps, choosable}
 use Rattle.runs.proofs.Levels.{front_up_to}
@@ -45,15 +45,15 @@ use Rattle.session.specs.Outcomes.{done, settled, spent}
 -- what a `?` gives back is the refusal of the call
 pub refused_done : (rules : List Meaning) (v : View) (c : Call) (r : Result (Unit {0}) Refusal) (e : Refusal) → IsErrAnd r (λ x. x ≡ e) → Some e ≡ first_failed (checks v c) → Does rules v c (done r) v
 refused_done rules v c (Ok _) e h q = absurd h
-refused_done rules v c (Err x) e h q = refused e (sym q) (ap answer.Refused h) refl
+refused_done rules v c (Err x) e h q = refused e (sym q) (ap Err h) refl
 
 pub refused_settle : (rules : List Meaning) (v : View) (r : Result Outcome Refusal) (e : Refusal) → IsErrAnd r (λ x. x ≡ e) → Some e ≡ first_failed (checks v Settle) → Does rules v Settle (settled r) v
 refused_settle rules v (Ok _) e h q = absurd h
-refused_settle rules v (Err x) e h q = refused e (sym q) (ap answer.Refused h) refl
+refused_settle rules v (Err x) e h q = refused e (sym q) (ap Err h) refl
 
 pub refused_spent : (rules : List Meaning) (v : View) (c : Call) (r : Result (Unit {0}) Returned) (e : Returned) → IsErrAnd r (λ x. x ≡ e) → Some e.refusal ≡ first_failed (checks v c) → Does rules v c (spent r) v
 refused_spent rules v c (Ok _) e h q = absurd h
-refused_spent rules v c (Err x) e h q = refused e.refusal (sym q) (ap (λ (y : Returned). answer.Refused y.refusal) h) refl
+refused_spent rules v c (Err x) e h q = refused e.refusal (sym q) (ap (λ (y : Returned). Err y.refusal) h) refl
 
 -- ---- some list of calls led to a view
 
@@ -79,7 +79,7 @@ module _ (rules : List Meaning) (v : View) (some : ∥ Reached rules v ∥₁) w
       ∙ ∥∥₁_elim some (hlevel props) (λ r. front_up_to rules k c.left (run_keeps rules r.run).trail c.front.few c.front.all c.front.last)
 
   -- the view after a call
-  pub next : (rules' : List Meaning) (w : View) (c : Call) (a : Answer) → Does rules v c a w → rules' ≡ rules → ∥ Reached rules' w ∥₁
+  pub next : (rules' : List Meaning) (w : View) (c : Call) (a : Answered) → Does rules v c a w → rules' ≡ rules → ∥ Reached rules' w ∥₁
   next rules' w c a d e =
       ∥∥₁_map some (λ r. subst (λ (ms : List Meaning). Reached ms w) (sym e) (record { events = r.events ++ event c a ∷ []; run = then r.run d }))
 
@@ -100,19 +100,19 @@ cut_told E t u k ls after r c told q h =
 pub dropped : (g h : Log) (k : ℕ) → held h.steps ≡ up_to k (held g.steps) → h.state ≡ Settled → h.level ≡ k → view_of h ≡ record { state = Settled; level = k; trail = up_to k (held g.steps) }
 dropped g h k e s l = cc
 
-pub back_done : (rules : List Meaning) (v w : View) (k : ℕ) → None ≡ first_failed (checks v (Back k)) → w ≡ record { state = Settled; level = k; trail = up_to k v.trail } → Does rules v (Back k) answer.Done w
+pub back_done : (rules : List Meaning) (v w : View) (k : ℕ) → None ≡ first_failed (checks v (Back k)) → w ≡ record { state = Settled; level = k; trail = up_to k v.trail } → Does rules v (Back k) (Ok reply.Done) w
 back_done rules v w k p e = does (sym p) (record { answer = refl; view = e })
 
-pub back_from_done : (rules : List Meaning) (v w : View) (rule level k : ℕ) → None ≡ first_failed (checks v (BackFromClash rule level k))
-    → w ≡ record { state = Settled; level = k; trail = up_to k v.trail } → Does rules v (BackFromClash rule level k) answer.Done w
-back_from_done rules v w rule level k p e = does (sym p) (record { answer = refl; view = e })
+pub back_from_done : (rules : List Meaning) (v w : View) (x : Clash) (k : ℕ) → None ≡ first_failed (checks v (BackFromClash x k))
+    → w ≡ record { state = Settled; level = k; trail = up_to k v.trail } → Does rules v (BackFromClash x k) (Ok reply.Done) w
+back_from_done rules v w x k p e = does (sym p) (record { answer = refl; view = e })
 
-pub close_done : (rules : List Meaning) (v : View) (rule level : ℕ) → None ≡ first_failed (checks v (Close rule level))
-    → Does rules v (Close rule level) answer.Done (record { state = Shut; level = v.level; trail = v.trail })
-close_done rules v rule level p = does (sym p) (record { answer = refl; view = refl })
+pub close_done : (rules : List Meaning) (v : View) (x : Clash) → None ≡ first_failed (checks v (Close x))
+    → Does rules v (Close x) (Ok reply.Done) (record { state = Shut; level = v.level; trail = v.trail })
+close_done rules v x p = does (sym p) (record { answer = refl; view = refl })
 
 pub choose_done : (rules : List Meaning) (v : View) (l : Literal) (n : ℤ) (u : List Step) → None ≡ first_failed (checks v (Choose n)) → number l ≡ n
-    → u ≡ v.trail ++ step l (v.level + 1) 0 ∷ [] → Does rules v (Choose n) answer.Done (record { state = Unsettled; level = v.level + 1; trail = u })
+    → u ≡ v.trail ++ step l (v.level + 1) None ∷ [] → Does rules v (Choose n) (Ok reply.Done) (record { state = Unsettled; level = v.level + 1; trail = u })
 choose_done rules v l n u p e s =
     does (sym p) (record { literal = l; named = e; answer = refl; view = ap (λ (t : List Step). record { state = Unsettled; level = v.level + 1; trail = t }) s })
 
@@ -125,18 +125,18 @@ pub choose_free : (v : View) (l : Literal) (n : ℤ) → number l ≡ n → None
 choose_free v l n e p = (choosable v l (subst (λ (k : ℤ). None ≡ first_failed (checks v (Choose k))) (sym e) p)).free
 
 pub settle_quiet : (rules : List Meaning) (g h : Log) (n : ℕ) → None ≡ first_failed (checks (view_of g) Settle) → Ran rules g None h → length (held g.steps) + n ≡ length (held h.steps)
-    → Does rules (view_of g) Settle (answer.Grown n) (record { state = Settled; level = h.level; trail = held h.steps })
+    → Does rules (view_of g) Settle (Ok (reply.Grown n)) (record { state = Settled; level = h.level; trail = held h.steps })
 settle_quiet rules g h n p r e =
     does (sym p) (record { verdict = Quiet; settles = r.settles; said = (n, e, refl); state = refl; level = r.level })
 
 pub settle_broken : (rules : List Meaning) (g h : Log) (r c : ℕ) → None ≡ first_failed (checks (view_of g) Settle) → Ran rules g (Some r) h → OfRule rules r (λ m. c ≡ m.letter)
-    → Does rules (view_of g) Settle (answer.Clash r h.level c) (record { state = Clashed r; level = h.level; trail = held h.steps })
+    → Does rules (view_of g) Settle (Ok (reply.Clash (clash r h.level) c)) (record { state = Clashed r; level = h.level; trail = held h.steps })
 settle_broken rules g h r c p q o =
     does (sym p)
     (record {
       verdict = Broken r;
       settles = q.settles;
-      said = record { rule = o.rule; numbered = o.numbered; is = ap (λ (k : ℕ). answer.Clash r k c) q.level ∙ ap (answer.Clash r g.level) o.is };
+      said = record { rule = o.rule; numbered = o.numbered; is = ap (λ (k : ℕ). Ok (reply.Clash (clash r k) c)) q.level ∙ ap (λ (k : ℕ). Ok (reply.Clash (clash r g.level) k)) o.is };
       state = refl;
       level = q.level;
     })
@@ -145,7 +145,7 @@ settle_broken rules g h r c p q o =
 pub settles_longer : (rules : List Meaning) (level : ℕ) {t u : List Step} {v : Verdict} → Settles rules level t u v → length t ≤ length u
 settles_longer rules level (quiet a) = omega arith
 settles_longer rules level (broken a) = omega arith
-settles_longer rules level (locks {t = t} {r = r} {l = l} a s) = let n = length_push t (step l level r) in let h = settles_longer rules level s in omega arith
+settles_longer rules level (locks {t = t} {r = r} {l = l} a s) = let n = length_push t (step l level (Some r)) in let h = settles_longer rules level s in omega arith
 
 -- the rule that is broken at the end is one of the rules
 pub broken_there : {A : Type 0} (rules rules' : List Meaning) (g h : Log) (r : ℕ) (e : Refusal) → rules' ≡ rules → Ran rules g (Some r) h → Some e ≡ first_failed (letter_checks rules' r) → A

@@ -6,7 +6,7 @@ ghost use Rattle.told.specs.Tellings.{free_checks};
 
 use crate::log::Log;
 use literals::{Literal, Refusal};
-use runs::{Call, State};
+use runs::{Call, Clash, State};
 
 const MOST_LEVEL: u32 = 64;
 
@@ -20,9 +20,9 @@ fn check_input(call: Call) -> Result<(), Refusal>
             Err(e) => Err(e),
         },
         Call::Back(k) => check_level(k),
-        Call::BackFromClash(_, _, k) => check_level(k),
+        Call::BackFromClash(_, k) => check_level(k),
         Call::Settle => Ok(()),
-        Call::Close(_, _) => Ok(()),
+        Call::Close(_) => Ok(()),
     }
 }
 
@@ -46,29 +46,29 @@ impl Log {
             (State::Clashed(_), Call::Settle) => Err(Refusal::ClashStands),
             (State::Clashed(_), Call::Choose(_)) => Err(Refusal::ClashStands),
             (State::Clashed(_), Call::Back(_)) => Err(Refusal::ClashStands),
-            (State::Clashed(rule), Call::BackFromClash(of, level, k)) => {
-                self.check_receipt(rule, of, level)?;
+            (State::Clashed(rule), Call::BackFromClash(of, k)) => {
+                self.check_receipt(rule, of)?;
                 self.check_below(k)
             }
-            (State::Clashed(rule), Call::Close(of, level)) => self.check_receipt(rule, of, level),
+            (State::Clashed(rule), Call::Close(of)) => self.check_receipt(rule, of),
             (State::Unsettled, Call::Settle) => Ok(()),
             (State::Unsettled, Call::Choose(_)) => Err(Refusal::Unsettled),
             (State::Unsettled, Call::Back(k)) => self.check_below(k),
-            (State::Unsettled, Call::BackFromClash(_, _, _)) => Err(Refusal::WrongReceipt),
-            (State::Unsettled, Call::Close(_, _)) => Err(Refusal::WrongReceipt),
+            (State::Unsettled, Call::BackFromClash(_, _)) => Err(Refusal::WrongReceipt),
+            (State::Unsettled, Call::Close(_)) => Err(Refusal::WrongReceipt),
             (State::Settled, Call::Settle) => Ok(()),
             (State::Settled, Call::Choose(n)) => self.check_free(n),
             (State::Settled, Call::Back(k)) => self.check_below(k),
-            (State::Settled, Call::BackFromClash(_, _, _)) => Err(Refusal::WrongReceipt),
-            (State::Settled, Call::Close(_, _)) => Err(Refusal::WrongReceipt),
+            (State::Settled, Call::BackFromClash(_, _)) => Err(Refusal::WrongReceipt),
+            (State::Settled, Call::Close(_)) => Err(Refusal::WrongReceipt),
         }
     }
 
     // Refused by 27 unless the receipt is of the rule that is broken and of the present level.
-    fn check_receipt(&self, rule: usize, of: usize, level: u8) -> Result<(), Refusal>
-        ensures { refusal_of result ≡ (if not (rule == of && self.now.level == level) then Some Refusal.WrongReceipt else None) }
+    fn check_receipt(&self, rule: usize, of: Clash) -> Result<(), Refusal>
+        ensures { refusal_of result ≡ (if not (rule == of.rule && self.now.level == of.level) then Some Refusal.WrongReceipt else None) }
     {
-        if rule == of && self.level == level {
+        if rule == of.rule && self.level == of.level {
             Ok(())
         } else {
             Err(Refusal::WrongReceipt)

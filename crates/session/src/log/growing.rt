@@ -42,7 +42,7 @@ impl Log {
         let none = Step {
             literal: Literal::FIRST,
             level: 0,
-            rule: 0,
+            rule: None,
         };
         Log {
             steps: Bounded::new(none),

@@ -12,7 +12,7 @@ use crate::receipt::{Outcome, Receipt, Returned};
 use crate::session::Session;
 use crate::session::moves::{drop_above, propagate, put};
 use literals::{Literal, Refusal};
-use runs::{Call, State, Step, laws_over_runs};
+use runs::{Call, Clash, State, Step, laws_over_runs};
 use shelf::Shelf;
 
 impl<S: Shelf> Session<S> {
@@ -63,11 +63,11 @@ impl<S: Shelf> Session<S> {
                     unreachable()
                 };
                 self.log.state = State::Clashed(rule);
-                Ok(Outcome::Clash(Receipt {
+                let clash = Clash {
                     rule,
                     level: self.log.level,
-                    letter,
-                }))
+                };
+                Ok(Outcome::Clash(Receipt { clash, letter }))
             }
         }
     }
@@ -87,7 +87,7 @@ impl<S: Shelf> Session<S> {
             Step {
                 literal,
                 level,
-                rule: 0,
+                rule: None,
             },
         );
         self.log.level = level;
@@ -109,11 +109,11 @@ impl<S: Shelf> Session<S> {
     // Drops what stands above level k, and takes the receipt. Refused by 13, 28, 27 or 26: the receipt is given back.
     pub fn back_from_clash(&mut self, receipt: Receipt, k: u32) -> Result<(), Returned>
         ensures rules { S.Shelf.rules self.new.shelf ≡ S.Shelf.rules self.old.shelf }
-        ensures does { Does (S.Shelf.rules self.old.shelf) (seen self.old) (Call.BackFromClash receipt.rule receipt.level k) (spent result) (seen self.new) }
+        ensures does { Does (S.Shelf.rules self.old.shelf) (seen self.old) (Call.BackFromClash receipt.clash k) (spent result) (seen self.new) }
         ensures same { OnErr result (self.new ≡ self.old) }
         ensures receipt { IfErr result (λ e. e.receipt ≡ receipt) }
     {
-        self.spend(Call::BackFromClash(receipt.rule, receipt.level, k), receipt)?;
+        self.spend(Call::BackFromClash(receipt.clash, k), receipt)?;
         drop_above(&mut self.shelf, &mut self.log, k as u8);
         Ok(())
     }
@@ -121,11 +121,11 @@ impl<S: Shelf> Session<S> {
     // Shuts the session, and takes the receipt; the trail stays. Refused by 28 or 27: the receipt is given back.
     pub fn close(&mut self, receipt: Receipt) -> Result<(), Returned>
         ensures rules { S.Shelf.rules self.new.shelf ≡ S.Shelf.rules self.old.shelf }
-        ensures does { Does (S.Shelf.rules self.old.shelf) (seen self.old) (Call.Close receipt.rule receipt.level) (spent result) (seen self.new) }
+        ensures does { Does (S.Shelf.rules self.old.shelf) (seen self.old) (Call.Close receipt.clash) (spent result) (seen self.new) }
         ensures same { OnErr result (self.new ≡ self.old) }
         ensures receipt { IfErr result (λ e. e.receipt ≡ receipt) }
     {
-        self.spend(Call::Close(receipt.rule, receipt.level), receipt)?;
+        self.spend(Call::Close(receipt.clash), receipt)?;
         self.log.state = State::Shut;
         Ok(())
     }

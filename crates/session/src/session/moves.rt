@@ -44,7 +44,7 @@ pub(crate) fn propagate<S: Shelf>(shelf: &mut S, log: &mut Log) -> Option<usize>
                     Step {
                         literal,
                         level,
-                        rule,
+                        rule: Some(rule),
                     },
                 );
             }

@@ -71,7 +71,7 @@ impl<S: Shelf> Session<S> {
         Ok(Position::of(self.standing(), switch as u8))
     }
 
-    // Why a switch stands: the rule that locked it, 0 where it was chosen, and the chosen switches that it is reached from. Refused by 1, or by
+    // Why a switch stands: the rule that locked it, none where it was chosen, and the chosen switches that it is reached from. Refused by 1, or by
     // 29 where it is free.
     pub fn why(&self, switch: u32) -> Result<Why, Refusal>
         ensures refused { refusal_of result ≡ first_failed (why_checks (seen self.now).trail switch) }

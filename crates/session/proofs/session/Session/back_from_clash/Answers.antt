@@ -12,7 +12,7 @@ invariant_of-self g c =
     let drop = c.drop_above.ensures in
     let w = view_of c.drop_above.new.log in
     let e = dropped x.log c.drop_above.new.log c.args.k (cut_to _ (seen x) x.reached c.args.k _ drop.cut) drop.state drop.level in
-    record { told = drop.told; reached = next _ (seen x) x.reached _ w _ _ (back_from_done _ (seen x) w c.args.receipt.rule c.args.receipt.level c.args.k c.in_ok-spend.ensures e) drop.rules }
+    record { told = drop.told; reached = next _ (seen x) x.reached _ w _ _ (back_from_done _ (seen x) w c.args.receipt.clash c.args.k c.in_ok-spend.ensures e) drop.rules }
 
 pub returns-clause-does : goal.returns-clause-does
 returns-clause-does g c =
@@ -20,4 +20,4 @@ returns-clause-does g c =
     let drop = c.drop_above.ensures in
     let w = view_of c.drop_above.new.log in
     let e = dropped x.log c.drop_above.new.log c.args.k (cut_to _ (seen x) x.reached c.args.k _ drop.cut) drop.state drop.level in
-    back_from_done _ (seen x) w c.args.receipt.rule c.args.receipt.level c.args.k c.in_ok-spend.ensures e
+    back_from_done _ (seen x) w c.args.receipt.clash c.args.k c.in_ok-spend.ensures e
