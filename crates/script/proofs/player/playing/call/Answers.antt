@@ -1,11 +1,7 @@
-use Rattle.std.proofs.Common.{ℤ, SFits, refl, subst, w32}
+use Rattle.std.proofs.Common.{SFits, refl, w32, rules}
 use Rattle.std.proofs.lemmas.Int.{to_z-of_z}
-use Rattle.runs.specs.declared.calls.Call.TheVariants as call
-use Rattle.runs.specs.Calls.{clash, Does}
-use Rattle.session.specs.Sessions.{seen}
-use Rattle.session.specs.Outcomes.{done}
+use Rattle.runs.specs.Calls.{clash}
 use Rattle.script.specs.Plays.{called, passed}
-use Rattle.script.proofs.Hands.{hand_choose}
 use Rattle.script.proofs.player.playing.call.Goals as goal
 
 pub returns-in-None-clause-plays : goal.returns-in-None-clause-plays
@@ -14,19 +10,10 @@ returns-in-None-clause-plays g c = rw (c.in-Settle.is, c.after_settle.ensures.an
 pub returns-in-Err-clause-plays : goal.returns-in-Err-clause-plays
 returns-in-Err-clause-plays g c = rw c.in-Settle.is (called (clash 0 0) (λ w. absurd w) c.in-Err.ensures.does)
 
-pub returns-in-Choose : goal.returns-in-Choose
-returns-in-Choose g c =
-    let rules = g.S.Shelf.rules c.args.session.now.shelf in
-    let v = seen c.args.session.now in
-    let w = seen c.choose.new.self in
-    let n = c.in-Choose.n in
+pub returns-in-Choose-clause-plays : goal.returns-in-Choose-clause-plays
+returns-in-Choose-clause-plays g c =
     let fits : SFits w32 c.in-Choose.n = search rules in
-    let does = subst (λ (z : ℤ). Does rules v (call.Choose z) (done c.choose.result) w) (to_z-of_z w32 n fits) c.choose.ensures.does in
-    record {
-      hand = hand_choose rules v w c.args.held c.requires.hand n _ does;
-      rules = c.choose.ensures.rules;
-      plays = rw (c.in-Choose.is, c.done.ensures) (called (clash 0 0) (λ w. absurd w) does);
-    }
+    rw (c.in-Choose.is, c.done.ensures) (called (clash 0 0) (λ w. absurd w) (simp to_z-of_z at c.choose.ensures.does))
 
 pub returns-in-Back-clause-plays : goal.returns-in-Back-clause-plays
 returns-in-Back-clause-plays g c = rw (c.in-Back.is, c.done-in-Back.ensures) (called (clash 0 0) (λ w. absurd w) c.back.ensures.does)
