@@ -1,6 +1,5 @@
 -- What the turns of settling keep.
-use Rattle.std.proofs.Common.{◌≡◌, ℕ, ◌-◌, ◌<◌, Bool, true, cond, ltb, List, [], ◌∷◌, ◌++◌, length, ℤ, Some, None, Result, sym, refl, ap, ◌∙◌, subst, arith, MatchResult}
-use Rattle.std.proofs.lemmas.Bool.{lt-ltb}
+use Rattle.std.proofs.Common.{◌≡◌, ℕ, ◌-◌, ◌<◌, true, List, [], ◌∷◌, ◌++◌, length, ℤ, Some, None, Result, sym, refl, ap, ◌∙◌, subst, arith, MatchResult}
 use Rattle.std.proofs.lemmas.List.{length_push}
 use Rattle.bounded.specs.Held.{held}
 use Rattle.literals.specs.declared.literal.Literal.{Literal}
@@ -32,9 +31,9 @@ module _ (t : List Step) (x : Step) (once : distinct (literals_on t) ≡ true) (
       let b = free_count-plus (standing t) x.literal f in
       omega arith
 
-  module _ (u : List Step) (r : Bool) (fits : r ≡ ltb (length t) 64) (items : u ≡ cond r (t ++ x ∷ []) t) where
+  module _ (u : List Step) (items : length t < 64 → u ≡ t ++ x ∷ []) where
     pub put_steps : u ≡ t ++ x ∷ []
-    put_steps = items ∙ ap (λ (b : Bool). cond b (t ++ x ∷ []) t) (fits ∙ lt-ltb (length t) 64 roomy)
+    put_steps = items roomy
 
     pub put_set : (s s' : Setting) → s ≡ standing t → s' ≡ plus s x.literal → s' ≡ standing u
     put_set s s' e p = p ∙ ap (λ (y : Setting). plus y x.literal) e ∙ sym (standing-push t x) ∙ ap standing (sym put_steps)

@@ -15,7 +15,7 @@ fn check_input(call: Call) -> Result<(), Refusal>
     ensures { refusal_of result ≡ first_failed (input_checks call) }
 {
     match call {
-        Call::Choose(n) => Literal::of_number(n).map(|_| ()),
+        Call::Choose(n) => Literal::try_from(n).map(|_| ()),
         Call::Back(k) | Call::BackFromClash(_, k) => check_level(k),
         Call::Settle | Call::Close(_) => Ok(()),
     }
@@ -110,13 +110,7 @@ impl Log {
     fn check_free(&self, n: i32) -> Result<(), Refusal>
         ensures { refusal_of result ≡ first_failed (free_checks self.now.standing n) }
     {
-        let literal = Literal::of_number(n)?;
-        if self.standing.stands(literal) {
-            return Err(Refusal::Stands);
-        }
-        if self.standing.is_false(literal) {
-            return Err(Refusal::OppositeStands);
-        }
-        Ok(())
+        let literal = Literal::try_from(n)?;
+        self.standing.check_free(literal)
     }
 }

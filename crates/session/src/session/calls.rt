@@ -78,7 +78,7 @@ impl<S: Shelf> Session<S> {
         ensures does { Does (S.Shelf.rules self.old.shelf) (seen self.old) (Call.Choose n) (done result) (seen self.new) }
         ensures same { OnErr result (self.new ≡ self.old) }
     {
-        let literal = Literal::of_number(n)?;
+        let literal = Literal::try_from(n)?;
         self.log.admit(Call::Choose(n))?;
         let level = self.log.level + 1;
         put(

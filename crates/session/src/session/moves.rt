@@ -21,7 +21,7 @@ pub(crate) fn put<S: Shelf>(shelf: &mut S, log: &mut Log, step: Step)
     ensures state { log.new.state ≡ log.old.state }
     ensures level { log.new.level ≡ log.old.level }
 {
-    let _ = shelf.tell(step.literal.number());
+    let _ = shelf.tell(i16::from(step.literal));
     log.push(step);
 }
 

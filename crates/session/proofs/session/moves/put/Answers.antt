@@ -6,6 +6,6 @@ use Rattle.session.proofs.session.moves.put.Goals as goal
 pub returns-clause-told : goal.returns-clause-told
 returns-clause-told g c =
     let told = c.tell.ensures in
-    let m : ℤ = to_z w16 (of_z w16 c.number.result) in
-    let is : m ≡ c.number.result = search rules in
-    put_told _ (held c.args.log.now.steps) _ c.args.step _ _ m c.tell.result c.requires.told c.requires.free (sym (is ∙ c.number.ensures)) told.refused told.told c.push.ensures.steps
+    let m : ℤ = to_z w16 (of_z w16 c.from.result) in
+    let is : m ≡ c.from.result = search rules in
+    put_told _ (held c.args.log.now.steps) _ c.args.step _ _ m c.tell.result c.requires.told c.requires.free (sym (is ∙ c.from.ensures)) told.refused told.told c.push.ensures.steps
