@@ -65,10 +65,8 @@ impl<S: Shelf> Session<S> {
         ensures refused { refusal_of result ≡ (if no_switch switch then Some Refusal.OutOfRange else None) }
         ensures position { IfOk result (λ p. p ≡ position (set-standing (seen self.now).trail) switch) }
     {
-        if switch < 1 || switch > 64 {
-            return Err(Refusal::OutOfRange);
-        }
-        Ok(Position::of(self.standing(), switch as u8))
+        let switch = u8::try_from(switch).map_err(|_| Refusal::OutOfRange)?;
+        Position::of(self.standing(), switch)
     }
 
     // Why a switch stands: the rule that locked it, none where it was chosen, and the chosen switches that it is reached from. Refused by 1, or by
