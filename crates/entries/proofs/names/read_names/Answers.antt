@@ -7,5 +7,5 @@ use Rattle.entries.proofs.names.read_names.Goals as goal
 pub returns-then-not-all_differ : goal.returns-then-not-all_differ
 returns-then-not-all_differ c o n =
     let e : fields_of c.args.line.now ≡ map name_of c.in_ok-columns.columns = search rules in
-    let twice = c.if-not-all_differ.ensures.1 (named_apart _ _ o e n) in
+    let twice = c.if-not-all_differ.ensures.1 (search (rules, named_apart _ _ o e n)) in
     cc
