@@ -1,6 +1,5 @@
 -- What the turns of settling keep.
-use Rattle.std.proofs.Common.{◌≡◌, ℕ, ◌-◌, ◌<◌, true, List, [], ◌∷◌, ◌++◌, length, ℤ, Some, None, Result, sym, refl, ap, ◌∙◌, subst, arith, MatchResult}
-use Rattle.std.proofs.lemmas.List.{length_push}
+use Rattle.std.proofs.Common.{◌≡◌, ℕ, ◌<◌, true, List, [], ◌∷◌, ◌++◌, length, ℤ, Some, None, Result, sym, ap, ◌∙◌, subst, arith, MatchResult}
 use Rattle.bounded.specs.Held.{held}
 use Rattle.literals.specs.declared.literal.Literal.{Literal}
 use Rattle.literals.specs.declared.refusal.Refusal.{Refusal}
@@ -58,9 +57,6 @@ pub record Going (rules : List Meaning) (g h : Log) : Type 0 where
   pub state : h.state ≡ g.state
   pub level : h.level ≡ g.level
 
-pub start : (rules : List Meaning) (g : Log) → Going rules g g
-start rules g = record { settles = λ u v s. s; state = refl; level = refl }
-
 pub again : (rules : List Meaning) (g h i : Log) (r : ℕ) (l : Literal) → Going rules g h → Answers rules (standing (held h.steps)) (Forced r l)
     → held i.steps ≡ held h.steps ++ step l h.level (Some r) ∷ [] → i.state ≡ h.state → i.level ≡ h.level → Going rules g i
 again rules g h i r l o a steps state level =
@@ -70,13 +66,6 @@ again rules g h i r l o a steps state level =
       state = state ∙ o.state;
       level = level ∙ o.level;
     }
-
-pub shorter : (t u : List Step) (x : Step) → distinct (literals_on u) ≡ true → u ≡ t ++ x ∷ [] → 64 - length u < 64 - length t
-shorter t u x once e =
-    let a = length_push t x in
-    let b = ap length e in
-    let c = count_once u once in
-    omega arith
 
 -- what the shelf answers of its told literals it answers of the trail
 pub asked : (rules rules' : List Meaning) (ls : List Literal) (t : List Step) (v : Verdict) → ls ≡ literals_on t → rules ≡ rules' → Answers rules (set_of ls) v → Answers rules' (standing t) v
