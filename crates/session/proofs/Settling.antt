@@ -1,6 +1,5 @@
 -- What the turns of settling keep.
-use Rattle.std.proofs.Common.{◌≡◌, ℕ, ◌-◌, ◌<◌, true, List, [], ◌∷◌, ◌++◌, length, ℤ, Some, None, Result, sym, refl, ap, ◌∙◌, subst, arith, MatchResult}
-use Rattle.std.proofs.lemmas.List.{length_push}
+use Rattle.std.proofs.Common.{◌≡◌, ℕ, ◌<◌, true, List, [], ◌∷◌, ◌++◌, length, ℤ, Some, Result, sym, ap, ◌∙◌, subst, arith, MatchResult}
 use Rattle.bounded.specs.Held.{held}
 use Rattle.literals.specs.declared.literal.Literal.{Literal}
 use Rattle.literals.specs.declared.refusal.Refusal.{Refusal}
@@ -11,16 +10,15 @@ use Rattle.literals.specs.Settings.{free, plus, set_of}
 use Rattle.literals.proofs.Freedom.{free_count-plus}
 use Rattle.lists.specs.Lists.{distinct}
 use Rattle.rules.specs.declared.Verdict.{Verdict}
-use Rattle.rules.specs.declared.Verdict.TheVariants.{Quiet, Broken, Forced}
+use Rattle.rules.specs.declared.Verdict.TheVariants.{Forced}
 use Rattle.shelf.specs.Meanings.{Meaning, Answers}
 use Rattle.told.specs.Tellings.{Appended, tell_checks}
 use Rattle.told.proofs.Telling.{tells_free}
 use Rattle.runs.specs.declared.step.Step.{Step}
 use Rattle.runs.specs.Views.{literals_on, standing, step}
-use Rattle.runs.specs.Calls.{Settles, quiet, broken, locks}
+use Rattle.runs.specs.Calls.{Settles, locks}
 use Rattle.runs.proofs.Trails.{literals-push, standing-push, once_more, count_once}
 use Rattle.session.specs.declared.log.Log.{Log}
-use Rattle.session.specs.Logs.{Ran}
 
 -- ---- one literal more
 
@@ -55,36 +53,15 @@ put_told E t u x ls after n r e f is q c st =
 -- g is the log where settling began, h the log now: what settles from now on settles from there
 pub record Going (rules : List Meaning) (g h : Log) : Type 0 where
   pub settles : (u : List Step) (v : Verdict) → Settles rules g.level (held h.steps) u v → Settles rules g.level (held g.steps) u v
-  pub state : h.state ≡ g.state
   pub level : h.level ≡ g.level
 
-pub start : (rules : List Meaning) (g : Log) → Going rules g g
-start rules g = record { settles = λ u v s. s; state = refl; level = refl }
-
 pub again : (rules : List Meaning) (g h i : Log) (r : ℕ) (l : Literal) → Going rules g h → Answers rules (standing (held h.steps)) (Forced r l)
-    → held i.steps ≡ held h.steps ++ step l h.level (Some r) ∷ [] → i.state ≡ h.state → i.level ≡ h.level → Going rules g i
-again rules g h i r l o a steps state level =
+    → held i.steps ≡ held h.steps ++ step l h.level (Some r) ∷ [] → i.level ≡ h.level → Going rules g i
+again rules g h i r l o a steps level =
     let e : held i.steps ≡ held h.steps ++ step l g.level (Some r) ∷ [] = steps ∙ ap (λ (n : ℕ). held h.steps ++ step l n (Some r) ∷ []) o.level in
-    record {
-      settles = λ u v s. o.settles u v (locks a (subst (λ (t : List Step). Settles rules g.level t u v) e s));
-      state = state ∙ o.state;
-      level = level ∙ o.level;
-    }
-
-pub shorter : (t u : List Step) (x : Step) → distinct (literals_on u) ≡ true → u ≡ t ++ x ∷ [] → 64 - length u < 64 - length t
-shorter t u x once e =
-    let a = length_push t x in
-    let b = ap length e in
-    let c = count_once u once in
-    omega arith
+    record { settles = λ u v s. o.settles u v (locks a (subst (λ (t : List Step). Settles rules g.level t u v) e s)); level = level ∙ o.level }
 
 -- what the shelf answers of its told literals it answers of the trail
 pub asked : (rules rules' : List Meaning) (ls : List Literal) (t : List Step) (v : Verdict) → ls ≡ literals_on t → rules ≡ rules' → Answers rules (set_of ls) v → Answers rules' (standing t) v
 asked rules rules' ls t v told e a =
     subst (λ (ms : List Meaning). Answers ms (standing t) v) e (subst (λ (ms : List Literal). Answers rules (set_of ms) v) told a)
-
-pub ran_quiet : (rules : List Meaning) (g h : Log) → Going rules g h → Answers rules (standing (held h.steps)) Quiet → Ran rules g None h
-ran_quiet rules g h o a = record { settles = o.settles _ Quiet (quiet a); state = o.state; level = o.level }
-
-pub ran_broken : (rules : List Meaning) (g h : Log) (r : ℕ) → Going rules g h → Answers rules (standing (held h.steps)) (Broken r) → Ran rules g (Some r) h
-ran_broken rules g h r o a = record { settles = o.settles _ (Broken r) (broken a); state = o.state; level = o.level }
