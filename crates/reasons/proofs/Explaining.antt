@@ -21,7 +21,6 @@ use Rattle.runs.specs.Runs.{Traced}
 use Rattle.runs.proofs.Because.{because}
 use Rattle.runs.proofs.Keeping.{run_keeps}
 use Rattle.runs.proofs.Trails.{once}
-use Rattle.runs.proofs.Verdicts.{true_false}
 use Rattle.reasons.specs.Whys.{Collected}
 use Rattle.reasons.proofs.Marking.{place_mentioned}
 
@@ -72,7 +71,7 @@ module _ (rules : List Meaning) (t : List Step) (place word : ℕ) (chosen : Set
       either : (a b : Bool) → (not a && not b) ≡ false → (a ≡ true) ⊎ (b ≡ true)
       either true b e = inl refl
       either false true e = inr refl
-      either false false e = true_false refl e
+      either false false e = absurd cc
 
   exactly : (m : ℕ) → 1 ≤ m → m ≤ 64 → Decides (bit word (m - 1)) (Reason rules t place m)
   exactly m low high =

@@ -18,7 +18,6 @@ use Rattle.shelf.specs.Meanings.{Meaning, OfRule, shut, no_rule, mention_checks}
 use Rattle.shelf.proofs.Caps.{number_there, rule_there}
 use Rattle.runs.specs.declared.step.Step.{Step}
 use Rattle.runs.specs.Views.{literals_on}
-use Rattle.runs.proofs.Verdicts.{true_false}
 use Rattle.reasons.specs.Whys.{Mentions, Named, Marks, mentioned_by, marked_by}
 
 -- ---- each switch has one place
@@ -30,7 +29,7 @@ place_mentioned (later n) = or_right _ _ (place_mentioned n)
 head_new : (x : Step) (t : List Step) {k : ℕ} {y : Step} → distinct (literals_on (x ∷ t)) ≡ true → Numbered t k y → x.literal.switch ≡ y.literal.switch → ⊥
 head_new x t {k} {y} d n e =
     let once = not-true _ (and_parts (not (mentioned (literals_on t) x.literal.switch)) (distinct (literals_on t)) d).0 in
-    true_false (place_mentioned n) (ap (mentioned (literals_on t)) (sym e) ∙ once)
+    cc (place_mentioned n, once)
 
 pub one_place : (t : List Step) {j k : ℕ} {x y : Step} → distinct (literals_on t) ≡ true → Numbered t j x → Numbered t k y → x.literal.switch ≡ y.literal.switch → j ≡ k
 one_place [] d n m e = elim n [ ]
@@ -57,7 +56,8 @@ unwrapped rules rule l k (Err f) e p o = at (no_rule rules rule) refl
     at : (b : Bool) → no_rule rules rule ≡ b → false ≡ not b && (get_or rules (rule - 1) (shut 0)).mentions l.switch
     at true q = refl
     at false q =
-        absurd (none-some f (sym (p ∙ ap₂ (λ (a b : Bool). cond a (Some OutOfRange) (cond b (Some NoSuchPlace) None)) known q)))
+        let none : first_failed (mention_checks rules rule k) ≡ None = ap₂ (λ (a b : Bool). cond a (Some OutOfRange) (cond b (Some NoSuchPlace) None)) known q in
+        absurd cc
 
 -- ---- one rule marks what it mentions
 
@@ -108,5 +108,5 @@ module _ (rules : List Meaning) (rule : ℕ) where
       )
       go false e ih = (
         (λ h. ⊎_elim inl (λ n. inr (named_later x t l n)) ((ih s).0 h)),
-        (λ h. (ih s).1 (⊎_elim inl (λ n. ⊎_elim (λ i. true_false i.1 e) inr (named_behind x t l n)) h)),
+        (λ h. (ih s).1 (⊎_elim inl (λ n. ⊎_elim (λ i. absurd cc) inr (named_behind x t l n)) h)),
       )

@@ -14,7 +14,6 @@ use Rattle.shelf.specs.Meanings.{Meaning}
 use Rattle.runs.specs.declared.step.Step.{Step}
 use Rattle.runs.specs.Views.{literals_on}
 use Rattle.runs.specs.Reasons.{Leads, Reaches, itself, on}
-use Rattle.runs.proofs.Verdicts.{true_false}
 use Rattle.reasons.specs.Whys.{Mentions, Named, Marks, Marked, marked_by, AllMarked, Chosen, Collected, Sought}
 use Rattle.reasons.proofs.Marking.{one_place, marks_all}
 
@@ -45,7 +44,7 @@ module _ (rules : List Meaning) (t : List Step) where
     starts : (x : Step) → Numbered t p x → AllMarked rules t p p (plus nothing x.literal)
     starts x at k y n = (
       (λ h. ⊎_elim (λ (e : x.literal ≡ y.literal). inl (sym (one_place t once at n (ap (λ (l : Literal). l.switch) e))))
-          (λ q. absurd (true_false q (nothing-stands y.literal))) (plus_cases nothing x.literal y.literal h)),
+          (λ q. absurd (cc (nothing-stands y.literal))) (plus_cases nothing x.literal y.literal h)),
       (λ h. ⊎_elim (λ (e : k ≡ p). let same : x ≡ y = numbered_one at (subst (λ (j : ℕ). Numbered t j y) e n) in
           subst (λ (z : Step). stands (plus nothing x.literal) z.literal ≡ true) same (plus-has nothing x.literal))
           (λ w. let low = reaches_low w.2 in let high = w.1 in absurd (omega arith)) h),
@@ -53,7 +52,7 @@ module _ (rules : List Meaning) (t : List Step) where
 
     none_yet : Collected rules t p p nothing
     none_yet l = (
-      (λ h. absurd (true_false h (nothing-stands l))),
+      (λ h. absurd (cc (nothing-stands l))),
       (λ (h : Chosen rules t p p l). let low = reaches_low h.reached in let high = h.behind in absurd (omega arith)),
     )
 
@@ -101,7 +100,7 @@ module _ (rules : List Meaning) (t : List Step) where
         here r = (all i x at).1 (reaches_marked r)
 
         unmarked : stands marked x.literal ≡ false → AllMarked rules t p m marked × Collected rules t p m chosen
-        unmarked e = (same_marked marked (λ k r l. true_false (here r) e) all, same_chosen chosen (λ r z. true_false (here r) e) some)
+        unmarked e = (same_marked marked (λ k r l. cc (here r)) all, same_chosen chosen (λ r z. cc (here r)) some)
 
         at_chosen : stands marked x.literal ≡ true → x.rule ≡ None → AllMarked rules t p m marked × Collected rules t p m (plus chosen x.literal)
         at_chosen e z = (same_marked marked (λ k r l. nowhere k l) all, grown)
@@ -109,7 +108,7 @@ module _ (rules : List Meaning) (t : List Step) where
             nowhere : (k : ℕ) → Leads rules t i k → ⊥
             nowhere k l =
                 let same : l.from ≡ x = numbered_one l.at at in
-                none-some l.rule (sym z ∙ ap (λ (y : Step). y.rule) (sym same) ∙ l.by)
+                cc
 
             itself_chosen : (l : Literal) → x.literal ≡ l → Chosen rules t p m l
             itself_chosen l q = record { place = i; step = x; at = at; behind = omega arith; is = q; chosen = z; reached = marked_reaches ((all i x at).0 e) }
@@ -127,7 +126,7 @@ module _ (rules : List Meaning) (t : List Step) where
 
         at_locked : (rule : ℕ) (marked' : Setting) → stands marked x.literal ≡ true → x.rule ≡ Some rule → Marks rules (take m t) rule marked marked'
             → AllMarked rules t p m marked' × Collected rules t p m chosen
-        at_locked rule marked' e z marks = (more, same_chosen chosen (λ r q. none-some rule (sym q ∙ z)) some)
+        at_locked rule marked' e z marks = (more, same_chosen chosen (λ r q. cc) some)
           where
             more : AllMarked rules t p m marked'
             more k y n = (
@@ -150,7 +149,7 @@ module _ (rules : List Meaning) (t : List Step) where
                     let to : l.to ≡ y = numbered_one l.there n in
                     let low = l.earlier in
                     let near : k ≤ m = omega arith in
-                    let same : l.rule ≡ rule = same_Some l.rule rule (sym l.by ∙ ap (λ (w : Step). w.rule) from ∙ z) in
+                    let same : l.rule ≡ rule = cc in
                     let says : Mentions rules rule y.literal.switch
                     = subst (λ (w : Step). Mentions rules rule w.literal.switch) to (subst (λ (r : ℕ). Mentions rules r l.to.literal.switch) same l.mentions) in
                     (marks y.literal).1 (inr (record { place = k; step = y; at = numbered_take m n near; is = refl; mentions = says })))

@@ -13,7 +13,6 @@ use Rattle.shelf.specs.Meanings.{Meaning, Lawful, Every}
 use Rattle.runs.specs.declared.step.Step.{Step}
 use Rattle.runs.specs.Views.{literals_on, standing}
 use Rattle.runs.specs.Reasons.{Meets, Still, Leads, Reaches, itself, on, Because}
-use Rattle.runs.proofs.Verdicts.{true_false}
 use Rattle.runs.proofs.Trails.{Trail, empty, chose, locked, plus_grows, forced_in}
 
 -- ---- the part of a trail that a rule mentions
@@ -60,7 +59,7 @@ named_stands m (x ∷ t) s u l p f h = go (m.mentions x.literal.switch) refl (λ
         (λ k. ⊎_elim (λ (q : x.literal ≡ l). subst (λ (n : Literal). stands (plus u x.literal) n ≡ true) q (plus-has u x.literal)) (λ q. plus_keeps u x.literal l (f q)) (plus_cases s x.literal l k))
     go false e ih =
         ih u
-        (λ k. ⊎_elim (λ (q : x.literal ≡ l). true_false p (sym (ap (λ (n : Literal). m.mentions n.switch) q) ∙ e)) f (plus_cases s x.literal l k))
+        (λ k. ⊎_elim (λ (q : x.literal ≡ l). let same = ap (λ (n : Literal). m.mentions n.switch) q in absurd cc) f (plus_cases s x.literal l k))
 
 place_stands : (t : List Step) (s : Setting) (j : ℕ) (y : Step) → Numbered t j y → stands (plus_all s (literals_on t)) y.literal ≡ true
 place_stands [] s j y h = elim h [ ]
@@ -68,7 +67,7 @@ place_stands (x ∷ t) s j y first = plus_all_keeps (plus s x.literal) (literals
 place_stands (x ∷ t) s j y (later n) = place_stands t (plus s x.literal) _ y n
 
 none_within : (x : Setting) → nothing ⊆ x
-none_within x l h = true_false h (nothing-stands l)
+none_within x l h = absurd (cc (nothing-stands l))
 
 named_part : (m : Meaning) (t : List Step) → standing (named m t) ⊆ standing t
 named_part m t = all_within (named m t) nothing (standing t) (none_within (standing t)) (λ j y n. let p = named_in m t j y n in place_stands t nothing p.0.0 y p.0.1)

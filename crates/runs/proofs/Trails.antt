@@ -18,7 +18,6 @@ use Rattle.runs.specs.declared.step.Step.{Step}
 use Rattle.runs.specs.Views.{literals_on, standing}
 use Rattle.runs.specs.Reasons.{Meets, Still}
 use Rattle.runs.specs.Laws.{Holds, Stable}
-use Rattle.runs.proofs.Verdicts.{true_false}
 
 -- a literal is chosen where all is quiet, and locked by what the scan forces; a chosen one begins a level
 pub data Trail (rules : List Meaning) : List Literal → List Step → Type 0 where
@@ -77,13 +76,13 @@ module _ (rules : List Meaning) (lawful : Every rules Lawful) where
 
       go : (b : Bool) → stands x l ≡ b → (d : Bool) → stands x (opposite l) ≡ d → stands x l ≡ true
       go true e d e' = e
-      go false e true e' = true_false (law.grows _ x (plus_within s x (opposite l) sub e') against) (meets r m at)
+      go false e true e' = absurd (cc (law.grows _ x (plus_within s x (opposite l) sub e') against, meets r m at))
       go false e false e' =
           let nor : free x l ≡ true = and_from _ _ (ap not e) (ap not e') in
           absurd (still r m at l (record { unbroken = meets r m at; free = nor; against = law.grows _ _ (plus_grows s x (opposite l) sub) against }))
 
   pub least : {c : List Literal} {t : List Step} (x : Setting) → Trail rules c t → Stable rules (numbers c) x → standing t ⊆ x
-  least x empty st = λ l h. true_false h (nothing-stands l)
+  least x empty st = λ l h. absurd (cc (nothing-stands l))
   least x (chose {c = c} {t = t} y back q f e z) st =
       subst (λ (s : Setting). s ⊆ x) (sym (standing-push t y))
       (plus_within (standing t) x y.literal (least x back (fewer_chosen rules c y.literal x st)) (st.holds y.literal (number_push c y.literal y.literal (inr refl))))
