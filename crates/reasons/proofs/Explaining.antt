@@ -91,7 +91,7 @@ module _ (rules : List Meaning) (t : List Step) (place word : ℕ) (chosen : Set
           let l = r.step.literal in
           let h : stands chosen l ≡ true
           = (collected l).1 (record { place = r.place; step = r.step; at = r.at; behind = numbered_low r.at; is = refl; chosen = r.chosen; reached = r.reached }) in
-          subst (λ (k : ℕ). free_switch chosen k ≡ false) r.switch (sym (free_is chosen l) ∙ taken (stands chosen l) (stands chosen (opposite l)) h)
+          rw (sym r.switch) (sym (free_is chosen l) ∙ taken (stands chosen l) (stands chosen (opposite l)) h)
 
   pub explains : (n : ℕ) (rule : Option ℕ) (x : Step) → Because rules t → Numbered t place x → x.literal.switch ≡ n → x.rule ≡ rule → Explains rules t n rule word
   explains n rule x b at e by =

@@ -1,8 +1,7 @@
 -- Why a literal stands: going down the trail marks exactly what is reached.
-use Rattle.std.proofs.Common.{◌≡◌, ℕ, suc, ◌-◌, Bool, true, false, cond, not, ◌&&◌, ◌⊎◌, List, [], ◌∷◌, length, filter, fold, get_or, Some, None, Ok, Err, Result, IfOk, Decides, sym, refl, ap, ap₂, ◌∙◌, subst, inl, inr, ⊎_elim, arith}
+use Rattle.std.proofs.Common.{◌≡◌, ℕ, suc, ◌-◌, Bool, true, false, cond, not, ◌&&◌, ◌⊎◌, List, [], ◌∷◌, length, filter, fold, get_or, Some, None, Ok, Err, Result, IfOk, Decides, sym, refl, ap, ap₂, ◌∙◌, inl, inr, ⊎_elim, arith}
 use Rattle.std.specs.Result.{result_unwrap_or}
 use Rattle.std.proofs.lemmas.Bool.{and_parts, not-true, or_left, or_right, or_from, or_parts, le-ltb, ltb-false, eq-eqb}
-use Rattle.std.proofs.lemmas.Option.{none-some}
 use Rattle.literals.specs.declared.literal.Literal.{Literal}
 use Rattle.literals.specs.declared.refusal.Refusal.{Refusal}
 use Rattle.literals.specs.declared.setting.Setting.{Setting}
@@ -79,7 +78,7 @@ module _ (rules : List Meaning) (rule : ℕ) where
   behind (later {r = j} n) = inr (j, n)
 
   named_here : (x : Step) (t : List Step) (l : Literal) → mentioned_by rules rule x.literal.switch ≡ true → x.literal ≡ l → Named rules (x ∷ t) rule l
-  named_here x t l h e = record { place = 1; step = x; at = first; is = e; mentions = subst (λ (k : Literal). Mentions rules rule k.switch) e (mentions_of x.literal.switch h) }
+  named_here x t l h e = record { place = 1; step = x; at = first; is = e; mentions = rw (sym e) (mentions_of x.literal.switch h) }
 
   named_later : (x : Step) (t : List Step) (l : Literal) → Named rules t rule l → Named rules (x ∷ t) rule l
   named_later x t l n = record { place = _; step = n.step; at = later n.at; is = n.is; mentions = n.mentions }
@@ -104,7 +103,7 @@ module _ (rules : List Meaning) (rule : ℕ) where
       go true e ih = (
         (λ h. ⊎_elim (λ q. ⊎_elim (λ (i : x.literal ≡ l). inr (named_here x t l e i)) inl (plus_cases s x.literal l q)) (λ n. inr (named_later x t l n)) ((ih (plus s x.literal)).0 h)),
         (λ h. (ih (plus s x.literal)).1 (⊎_elim (λ q. inl (plus_keeps s x.literal l q))
-            (λ n. ⊎_elim (λ i. inl (subst (λ (k : Literal). stands (plus s x.literal) k ≡ true) i.0 (plus-has s x.literal))) inr (named_behind x t l n)) h)),
+            (λ n. ⊎_elim (λ i. inl (rw (sym i.0) (plus-has s x.literal))) inr (named_behind x t l n)) h)),
       )
       go false e ih = (
         (λ h. ⊎_elim inl (λ n. inr (named_later x t l n)) ((ih s).0 h)),

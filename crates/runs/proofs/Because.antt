@@ -1,5 +1,5 @@
 -- A literal of the trail stands in every unbroken set that forces nothing and holds the chosen literals that its place reaches.
-use Rattle.std.proofs.Common.{◌≡◌, ℕ, suc, ◌+◌, ◌<◌, Bool, true, false, cond, List, [], ◌∷◌, ◌++◌, length, Some, None, sym, refl, ap, ◌∙◌, subst, ⊎_elim, arith}
+use Rattle.std.proofs.Common.{◌≡◌, ℕ, suc, ◌+◌, ◌<◌, Bool, true, false, cond, List, [], ◌∷◌, ◌++◌, length, Some, None, sym, refl, ap, ◌∙◌, ⊎_elim, arith}
 use Rattle.literals.specs.declared.literal.Literal.{Literal}
 use Rattle.literals.specs.declared.setting.Setting.{Setting}
 use Rattle.literals.specs.Literals.{opposite}
@@ -56,7 +56,7 @@ named_stands m (x ∷ t) s u l p f h = go (m.mentions x.literal.switch) refl (λ
         → stands (plus_all u (literals_on (cond b (x ∷ named m t) (named m t)))) l ≡ true
     go true e ih =
         ih (plus u x.literal)
-        (λ k. ⊎_elim (λ (q : x.literal ≡ l). subst (λ (n : Literal). stands (plus u x.literal) n ≡ true) q (plus-has u x.literal)) (λ q. plus_keeps u x.literal l (f q)) (plus_cases s x.literal l k))
+        (λ k. ⊎_elim (λ (q : x.literal ≡ l). rw (sym q) (plus-has u x.literal)) (λ q. plus_keeps u x.literal l (f q)) (plus_cases s x.literal l k))
     go false e ih =
         ih u
         (λ k. ⊎_elim (λ (q : x.literal ≡ l). let same = ap (λ (n : Literal). m.mentions n.switch) q in absurd cc) f (plus_cases s x.literal l k))
@@ -81,7 +81,7 @@ module _ (rules : List Meaning) (lawful : Every rules Lawful) (s : Setting) (mee
       let part : Setting = standing (named m before) in
       let against : m.breaks (plus part (opposite l)) ≡ true
       = (lawful r m at).ignores (plus (standing before) (opposite l)) (plus part (opposite l)) (plus_grows part (standing before) (opposite l) (named_part m before))
-      (λ k p q. ⊎_elim (λ (e : opposite l ≡ k). subst (λ (n : Literal). stands (plus part (opposite l)) n ≡ true) e (plus-has part (opposite l)))
+      (λ k p q. ⊎_elim (λ (e : opposite l ≡ k). rw (sym e) (plus-has part (opposite l)))
       (λ w. plus_keeps part (opposite l) k (named_stands m before nothing nothing k p (λ z. z) w)) (plus_cases (standing before) (opposite l) k q))
       f.against in
       forced_in rules lawful part s r m l at against
@@ -122,7 +122,7 @@ module _ (rules : List Meaning) (lawful : Every rules Lawful) (s : Setting) (mee
         ⊎_elim (λ p. holds back (shorter t y front) i x p)
         (λ p. let l = last_of t y x i p in λ reasons.
         let rule = ap (λ (w : Step). w.rule) l.0 ∙ z in
-        subst (λ (w : Step). stands s w.literal ≡ true) (sym l.0)
+        rw l.0
         (forced t r a.rule y.literal a.numbered a.here.forced
         (λ j w m says. holds back (shorter t y front) j w m
         (λ k v o reach chosen. reasons k v o (follows whole i j k (leads i x (front i x n) j w (front j w (numbered_left (y ∷ []) m)) (before t i j w l.1 m) r rule a.rule a.numbered says) reach) chosen))))

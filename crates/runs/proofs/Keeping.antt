@@ -1,5 +1,5 @@
 -- What every list of calls keeps of a session.
-use Rattle.std.proofs.Common.{◌≡◌, ℕ, ◌+◌, ◌<◌, Bool, true, false, cond, not, List, [], ◌∷◌, ◌++◌, length, take, ℤ, None, Ok, is_none, sym, refl, ap, ◌∙◌, subst, ap₂, arith}
+use Rattle.std.proofs.Common.{◌≡◌, ℕ, ◌+◌, ◌<◌, Bool, true, false, cond, not, List, [], ◌∷◌, ◌++◌, length, take, ℤ, None, is_none, sym, refl, ap, ◌∙◌, subst, ap₂, arith}
 use Rattle.std.proofs.lemmas.List.{append-nil, map_push, length_push, length-take-le, take-map}
 use Rattle.std.proofs.lemmas.Bool.{leb-false, and_from}
 use Rattle.literals.specs.declared.literal.Literal.{Literal}
@@ -18,7 +18,6 @@ use Rattle.runs.specs.declared.calls.State.TheVariants.{Unsettled, Settled, Clas
 use Rattle.runs.specs.declared.calls.Clash.{Clash}
 use Rattle.runs.specs.declared.calls.Call.{Call}
 use Rattle.runs.specs.declared.calls.Call.TheVariants.{Settle, Choose, Back, BackFromClash, Close}
-use Rattle.runs.specs.declared.calls.Reply.TheVariants.{Done}
 use Rattle.runs.specs.Views.{View, opened, standing, step}
 use Rattle.runs.specs.Calls.{Answered, checks, is_shut, is_clashed, is_unsettled, state_by, Said, SettledBy, Chose, WentBack, Closed, Did, Does, refused, done}
 use Rattle.runs.specs.Runs.{Event, event, Run, none, then, chosen_after, chosen_from, chosen_by}

@@ -1,5 +1,5 @@
 -- For every view and call there is exactly one answer and one outcome.
-use Rattle.std.proofs.Common.{◌≡◌, ℕ, zero, suc, ◌+◌, ◌≤◌, true, false, List, [], ◌∷◌, ◌++◌, length, ℤ, pos, negsuc, neg_ℤ, Some, None, Ok, Err, Option, sym, refl, ap, ◌∙◌, subst, arith}
+use Rattle.std.proofs.Common.{◌≡◌, ℕ, zero, suc, ◌+◌, ◌≤◌, true, false, List, [], ◌∷◌, ◌++◌, length, ℤ, pos, negsuc, neg_ℤ, Some, None, Ok, Err, Option, sym, refl, ap, ◌∙◌, arith}
 use Rattle.std.proofs.lemmas.List.{length_push}
 use Rattle.std.proofs.lemmas.Bool.{or_parts, ltb-false}
 use Rattle.literals.specs.declared.literal.Literal.{Literal}
@@ -17,7 +17,6 @@ use Rattle.rules.proofs.Numbers.{numbered_one}
 use Rattle.shelf.specs.Meanings.{Meaning, Answers}
 use Rattle.runs.specs.declared.step.Step.{Step}
 use Rattle.runs.specs.declared.calls.State.{State}
-use Rattle.runs.specs.declared.calls.State.TheVariants.{Unsettled}
 use Rattle.runs.specs.declared.calls.Call.{Call}
 use Rattle.runs.specs.declared.calls.Call.TheVariants.{Settle, Choose, Back, BackFromClash, Close}
 use Rattle.runs.specs.declared.calls.Reply.TheVariants as reply
@@ -42,7 +41,7 @@ module _ (rules : List Meaning) (level : ℕ) where
   settles_one (locks {t = t} {r = r} {l = l} a s) (locks {u = u} {v = v} {r = q} {l = k} b s') =
       let e = answers_one rules (standing t) (Forced q k) (Forced r l) b a in
       let same : t ++ step k level (Some q) ∷ [] ≡ t ++ step l level (Some r) ∷ [] = cc in
-      settles_one s (subst (λ (x : List Step). Settles rules level x u v) same s')
+      settles_one s (rw (sym same) s')
 
   pub settles_answer : {t u : List Step} {v : Verdict} → Settles rules level t u v → Answers rules (standing u) v
   settles_answer (quiet a) = a
@@ -126,7 +125,7 @@ module _ (rules : List Meaning) (v : View) where
   one_settle : Unique (SettledBy rules v)
   one_settle a b w x p q =
       let e = settles_one rules v.level p.settles q.settles in (
-        said_one w x q.verdict a b e.0 (subst (λ (d : Verdict). Said rules v w d a) e.1 p.said) q.said,
+        said_one w x q.verdict a b e.0 (rw (sym e.1) p.said) q.said,
         view_same w x (cc) (cc) e.0,
       )
 

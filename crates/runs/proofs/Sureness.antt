@@ -1,5 +1,5 @@
 -- Settled is the least stable set over the chosen literals, clashed is hopeless, and two sessions agree.
-use Rattle.std.proofs.Common.{◌≡◌, ℕ, Bool, true, false, not, List, length, ℤ, sym, refl, ap, ◌∙◌, subst, arith}
+use Rattle.std.proofs.Common.{◌≡◌, ℕ, Bool, true, false, not, List, length, ℤ, sym, refl, ap, ◌∙◌, arith}
 use Rattle.literals.specs.declared.literal.Literal.{Literal}
 use Rattle.literals.specs.declared.setting.Setting.{Setting}
 use Rattle.literals.specs.Literals.{number, opposite}
@@ -23,13 +23,13 @@ use Rattle.runs.proofs.Keeping.{Kept, run_keeps, chosen_told}
 
 module _ (rules : List Meaning) (lawful : Every rules Lawful) (c : List ℤ) (v : View) (i : Kept rules c v) where
   pub within : (t : Setting) → Stable rules c t → standing v.trail ⊆ t
-  within t st = least rules lawful t i.trail (subst (λ (ns : List ℤ). Stable rules ns t) (sym i.named) st)
+  within t st = least rules lawful t i.trail (rw i.named st)
 
   pub settled_least : v.state ≡ Settled → Least rules c (standing v.trail)
   settled_least e =
       record {
         stable = record {
-          holds = subst (λ (ns : List ℤ). Holds ns (standing v.trail)) i.named (holds_chosen rules i.trail);
+          holds = rw (sym i.named) (holds_chosen rules i.trail);
           meets = λ r m n. (i.quiet e r m n).unbroken;
           still = λ r m n l f. (i.quiet e r m n).still l f;
         };
@@ -144,7 +144,7 @@ every_two_agree rules lawful others lawful' m es fs v w run run' e =
     j = run_keeps others run'
 
     same : Same (numbers i.chosen) (numbers j.chosen)
-    same = subst (λ (ns : List ℤ). Same ns (numbers j.chosen)) (sym i.named) (subst (λ (ns : List ℤ). Same c ns) (sym j.named) e)
+    same = rw i.named (rw j.named e)
 
     alike : v.state ≡ Settled → w.state ≡ Settled → Alike v w
     alike p q =

@@ -49,7 +49,7 @@ module _ (rules : List Meaning) (s : Setting) where
       (cases_lt q r)
 
   same_rule : (P Q : Meaning → Type 0) (q r : ℕ) → q ≡ r → (h : Lowest (λ m. m.breaks) rules s q P) (k : Lowest (λ m. m.breaks) rules s r Q) → h.rule ≡ k.rule
-  same_rule P Q q r e h k = numbered_one (subst (λ (n : ℕ). Numbered rules n h.rule) e h.numbered) k.numbered
+  same_rule P Q q r e h k = numbered_one (rw (sym e) h.numbered) k.numbered
 
   loud_broken : Loud (λ m. m.breaks s ≡ true)
   loud_broken m b h = cc
@@ -113,12 +113,12 @@ module _ (B : Setting → Bool) (s : Setting) (whole : B s ≡ false) where
       more a b j p f = ⊎_elim (λ (q : j.switch < n). none j q f) (λ (q : n ≤ j.switch). let e : j.switch ≡ n = omega arith in side e j.on refl f) (cases_lt j.switch n)
         where
           side : j.switch ≡ n → (o : Bool) → j.on ≡ o → Forces B s j → ⊥
-          side e true o g = a (subst (Forces B s) (literal_same j on e o) g)
-          side e false o g = b (subst (Forces B s) (literal_same j off e o) g)
+          side e true o g = a (rw (sym (literal_same j on e o)) g)
+          side e false o g = b (rw (sym (literal_same j off e o)) g)
 
       before_off : (Forces B s on → ⊥) → (j : Literal) → Before j off → Forces B s j → ⊥
       before_off a j (inl p) = none j p
-      before_off a j (inr p) = λ g. a (subst (Forces B s) (literal_same j on p.0 p.1) g)
+      before_off a j (inr p) = λ g. a (rw (sym (literal_same j on p.0 p.1)) g)
 
       at : (NoneBelow (n + 1) → ((l : Literal) × First B s l) ⊎ ((l : Literal) → Forces B s l → ⊥)) → Forces B s on ⊎ (Forces B s on → ⊥) → Forces B s off ⊎ (Forces B s off → ⊥) → ((l : Literal) × First B s l) ⊎ ((l : Literal) → Forces B s l → ⊥)
       at next (inl f) b = inl (on, record { forced = f; lowest = before_on })
