@@ -1,7 +1,7 @@
 -- Numbers read as literals, one after the other.
-use Rattle.std.proofs.Common.{◌≡◌, ℕ, zero, suc, ◌+◌, ◌<◌, ◌≤◌, Bool, true, false, cond, ◌⊎◌, List, [], ◌∷◌, ◌++◌, length, get_or, take, ℤ, pos, Some, None, Decides, sym, refl, ap, ◌∙◌, subst, ap₂, inl, inr, ⊎_elim, arith, take_all}
+use Rattle.std.proofs.Common.{◌≡◌, ℕ, zero, suc, ◌+◌, ◌<◌, ◌≤◌, Bool, true, false, cond, eqb, ◌⊎◌, List, [], ◌∷◌, ◌++◌, length, get_or, take, ℤ, pos, Some, None, Decides, sym, refl, ap, ◌∙◌, subst, ap₂, inl, inr, ⊎_elim, arith, take_all}
 use Rattle.std.proofs.lemmas.List.{take_more}
-use Rattle.std.proofs.lemmas.Bool.{or_left, or_right, or_from, or_parts, le-ltb, both_ways}
+use Rattle.std.proofs.lemmas.Bool.{eqb-false, or_left, or_right, or_from, or_parts, le-ltb, both_ways}
 use Rattle.literals.specs.declared.literal.Literal.{Literal}
 use Rattle.literals.specs.declared.setting.Setting.{Setting}
 use Rattle.literals.specs.declared.refusal.Refusal.{Refusal}
@@ -38,6 +38,9 @@ pub inside_all : (ns : List ℤ) (i : ℕ) → length ns ≤ i → some_outside 
 inside_all ns i ge inside = ap some_outside (sym (take_all i ns ge)) ∙ inside
 
 -- ---- the checks of a list of 1 to 16 numbers
+
+pub not_empty : (ns : List ℤ) → eqb (length ns) 0 ≡ false → 1 ≤ length ns
+not_empty ns h = let ne = eqb-false (length ns) 0 h in omega arith
 
 right_length : (ns : List ℤ) → 1 ≤ length ns → length ns ≤ 16 → wrong_length ns ≡ false
 right_length ns p q = or_from _ _ (le-ltb (length ns) 1 p) (le-ltb 16 (length ns) q)

@@ -1,7 +1,8 @@
 -- The set of a list of literals over distinct switches: what stands in it, what is free, and how many switches it leaves free.
-use Rattle.std.proofs.Common.{◌≡◌, ℕ, zero, suc, ◌+◌, ◌<◌, Bool, true, false, not, ◌&&◌, ◌||◌, eqb, List, [], ◌∷◌, ◌++◌, length, take, sym, refl, ap, ◌∙◌, ⊎_elim, arith}
+use Rattle.std.proofs.Common.{◌≡◌, ℕ, zero, suc, ◌+◌, ◌<◌, Bool, true, false, not, ◌&&◌, ◌||◌, eqb, List, [], ◌∷◌, ◌++◌, length, get_or, take, sym, refl, ap, ◌∙◌, ⊎_elim, arith}
 use Rattle.std.specs.List.{All}
-use Rattle.std.proofs.lemmas.Bool.{and_parts, and_from, and_left, cases_Bool, eqb-true, eqb-false, not-true, or_from, or_parts}
+use Rattle.std.proofs.lemmas.List.{take_more}
+use Rattle.std.proofs.lemmas.Bool.{false≢true, and_parts, and_from, and_left, cases_Bool, eqb-true, eqb-false, not-true, or_from, or_parts}
 use Rattle.std.proofs.lemmas.Bool.Decides.{nat_tests}
 use Rattle.std.proofs.lemmas.List.Elements.{All-nil, All-cons, All-head, All-tail}
 use Rattle.literals.specs.declared.literal.Literal.{Literal}
@@ -82,6 +83,29 @@ free_new ls l f = not-true _ (sym (set_free ls l) ∙ f)
 
 pub new_free : (ls : List Literal) (l : Literal) → mentioned ls l.switch ≡ false → free (set_of ls) l ≡ true
 new_free ls l h = set_free ls l ∙ ap not h
+
+-- ---- a list looked through for a switch that comes twice, with the set of the literals before place i
+
+module _ (ls : List Literal) (i : ℕ) (l : Literal) (seen : Setting) (lt : i < length ls) (is : l ≡ get_or ls i l) where
+  one_more : take (i + 1) ls ≡ take i ls ++ l ∷ []
+  one_more = take_more ls i l lt ∙ ap (λ (y : Literal). take i ls ++ y ∷ []) (sym is)
+
+  pub twice_here : seen ≡ set_of (take i ls) → free seen l ≡ false → distinct ls ≡ false
+  twice_here e f = not-true-is-false (distinct ls) (λ d.
+      let new = last_new (take i ls) l (ap distinct (sym one_more) ∙ distinct-take (i + 1) ls d) in
+      let z : true ≡ false = sym (new_free (take i ls) l new) ∙ ap (λ (s : Setting). free s l) (sym e) ∙ f in
+      false≢true (sym z))
+    where
+      not-true-is-false : (b : Bool) → (b ≡ true → ⊥) → b ≡ false
+      not-true-is-false true h = absurd (h refl)
+      not-true-is-false false h = refl
+
+  pub new_here : (grown : Setting) → distinct (take i ls) ≡ true → seen ≡ set_of (take i ls) → free seen l ≡ true → grown ≡ plus seen l
+      → (distinct (take (i + 1) ls) ≡ true) × (grown ≡ set_of (take (i + 1) ls))
+  new_here grown d e f g = (
+    ap distinct one_more ∙ distinct_push (take i ls) l d (free_new (take i ls) l (ap (λ (s : Setting). free s l) (sym e) ∙ f)),
+    g ∙ ap (λ (s : Setting). plus s l) e ∙ sym (plus_all-push nothing (take i ls) l) ∙ ap set_of (sym one_more),
+  )
 
 -- ---- how many switches the list leaves free
 

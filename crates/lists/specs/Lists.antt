@@ -8,7 +8,8 @@
 --   literals_of    the literals that a `Literals` holds
 --   ◌∈◌            a number is one of a list
 --   Collects       a set has exactly the literals of these numbers
-use Rattle.std.specs.Prelude.{◌≡◌, ℕ, Bool, true, false, not, ◌&&◌, ◌||◌, ◌⊎◌, List, [], ◌∷◌, length, take, ℤ, Decides, ◌==◌, nat_lt}
+use Rattle.std.specs.Prelude.{◌≡◌, ℕ, Bool, true, false, not, ◌&&◌, ◌||◌, ◌⊎◌, List, [], ◌∷◌, length, ℤ, Decides, ◌==◌, nat_lt}
+use Rattle.bounded.specs.Held.{held}
 use Rattle.literals.specs.declared.literal.Literal.{Literal}
 use Rattle.literals.specs.declared.setting.Setting.{Setting}
 use Rattle.literals.specs.declared.refusal.Refusal.TheVariants.{OutOfRange, TermCount}
@@ -47,7 +48,7 @@ abbrev pub read_checks : List ℤ → List Check
 read_checks ns = check (wrong_length ns) TermCount ∷ check (some_outside ns) OutOfRange ∷ []
 
 abbrev pub literals_of : Literals → List Literal
-literals_of x = take x.len x.items
+literals_of x = held x.items
 
 abbrev pub ◌∈◌ : ℤ → List ℤ → Type 0
 n ∈ [] = ⊥

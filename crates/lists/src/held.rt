@@ -1,15 +1,17 @@
-ghost use Rattle.std.specs.Prelude.{◌≡◌, ◌≤◌, length};
+ghost use Rattle.std.specs.Prelude.{◌≤◌, length};
+ghost use Rattle.bounded.specs.Held.{held};
 
 mod methods;
 
+use bounded::Bounded;
 use literals::Literal;
 
-// 1 to 16 literals: the first `len` of `items`.
+// A rule has at most so many terms.
+pub const MOST_TERMS: usize = 16;
+
+// 1 to 16 literals.
 #[derive(Clone, Copy)]
 pub struct Literals {
-    items: [Literal; 16],
-    len: usize,
-    ghost whole: { length items ≡ 16 },
-    ghost some: { 1 ≤ len },
-    ghost few: { len ≤ 16 },
+    items: Bounded<Literal, MOST_TERMS>,
+    ghost some: { 1 ≤ length (held items) },
 }

@@ -4,5 +4,5 @@
 mod held;
 mod slices;
 
-pub use held::Literals;
+pub use held::{Literals, MOST_TERMS};
 pub use slices::{collect, mentions, switch_twice};

@@ -8,21 +8,19 @@ use literals::{Literal, Refusal, Setting};
 pub fn mentions(literals: &[Literal], switch: u8) -> bool
     ensures { result ≡ mentioned literals.now switch }
 {
-    let mut found = false;
-    for l in literals {
-        found = found | (l.switch() == switch);
-    }
-    found
+    literals.iter().any(|l| l.switch() == switch)
 }
 
 // Two literals of the list are of one switch.
 pub fn switch_twice(literals: &[Literal]) -> bool
     ensures { result ≡ not (distinct literals.now) }
 {
-    for i in 0..literals.len() {
-        if mentions(&literals[i + 1..], literals[i].switch()) {
+    let mut seen = Setting::new();
+    for l in literals {
+        if !seen.is_free(*l) {
             return true;
         }
+        seen = seen.with(*l);
     }
     false
 }
@@ -34,7 +32,7 @@ pub fn collect(numbers: &[i16]) -> Result<Setting, Refusal>
 {
     let mut set = Setting::new();
     for n in numbers {
-        let literal = Literal::new(*n)?;
+        let literal = Literal::try_from(*n)?;
         set = set.with(literal);
     }
     Ok(set)

@@ -1,10 +1,11 @@
 -- A literal is known by its switch and side, and by its number.
-use Rattle.std.proofs.Common.{◌≡◌, ℕ, zero, suc, ◌≤◌, Bool, true, false, cond, not, ◌&&◌, eqb, ℤ, pos, neg_ℤ, Decides, sym, refl, ap, subst, ap₂, arith}
+use Rattle.std.proofs.Common.{◌≡◌, ℕ, zero, suc, ◌≤◌, Bool, true, false, cond, not, ◌&&◌, eqb, ℤ, pos, neg_ℤ, Decides, sym, refl, ap, subst, ap₂, arith, rules}
 use mathlib.Core.Bool.{beq}
 use native.Mathlib.Bridge.{le_prop}
 use Rattle.std.proofs.lemmas.Int.{ints}
 use Rattle.std.proofs.lemmas.Bool.{and_parts, and_from, and_right, eq-eqb, eqb-true}
 use Rattle.std.proofs.lemmas.Bool.Decides.{nat_tests}
+use Rattle.literals.specs.contracts.literal.LiteralPartialEq.TheImpl as equals
 use Rattle.literals.specs.declared.literal.Literal.{Literal}
 use Rattle.literals.specs.Literals.{number, size, opposite, same}
 
@@ -96,3 +97,7 @@ same_opposites l m = ap₂ (λ (a b : Bool). a && b) (turn m.switch l.switch) (s
 
     sides : (a b : Bool) → beq (not a) (not b) ≡ beq b a
     sides a b = grind arith
+
+-- what `==` on literals answers
+pub equal_same : (l m : Literal) → equals.ghosts.eq l m ≡ same l m
+equal_same l m = search rules

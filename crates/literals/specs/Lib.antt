@@ -1,3 +1,4 @@
 pub mod Literals
+pub mod Readings
 pub mod Refusals
 pub mod Settings

@@ -8,11 +8,14 @@
 --   ◌⊆◌            a set is contained in another
 --   set_of         the set of a list of literals
 --   free_count     how many switches are free
+--   taken_checks   what is checked of a literal before it joins a set
 use Rattle.std.specs.Prelude.{◌≡◌, ℕ, ◌-◌, ◌^◌, Bool, true, cond, not, ◌&&◌, ◌||◌, List, [], ◌∷◌, length, ℤ, pos, negsuc, bit_and, bit_or}
 use Rattle.bits.specs.Words.{bit, kept}
 use Rattle.literals.specs.declared.literal.Literal.{Literal}
 use Rattle.literals.specs.declared.setting.Setting.{Setting}
+use Rattle.literals.specs.declared.refusal.Refusal.TheVariants.{Stands, OppositeStands}
 use Rattle.literals.specs.Literals.{opposite}
+use Rattle.literals.specs.Refusals.{Check, check}
 
 infix 40 ◌⊆◌
 unfoldable pub stands : Setting → Literal → Bool
@@ -62,3 +65,15 @@ free_switch s n = not (bit s.on (n - 1) || bit s.off (n - 1))
 -- how many of the switches 1 to 64 are free
 unfoldable pub free_count : Setting → ℕ
 free_count s = length (kept (free_switch s) 1 64)
+
+-- neither literal of the switch is in the set
+abbrev pub taken_checks : Setting → Literal → List Check
+taken_checks s l = check (stands s l) Stands ∷ check (stands s (opposite l)) OppositeStands ∷ []
+
+-- the word of a literal's side
+abbrev pub side : Setting → Literal → ℕ
+side s l = cond l.on s.on s.off
+
+-- the set with another word on a literal's side
+abbrev pub with_side : Setting → Literal → ℕ → Setting
+with_side s l w = record { on = cond l.on w s.on; off = cond l.on s.off w }

@@ -2,7 +2,10 @@
 ghost use Rattle.std.specs.Prelude.{◌≡◌};
 ghost use Rattle.literals.specs.Refusals.{number_of};
 
-#[derive(Clone, Copy)]
+use std::error::Error;
+use std::fmt;
+
+#[derive(Clone, Copy, Debug, PartialEq, Eq, Hash)]
 pub enum Refusal {
     // ---- what was handed in
 
@@ -56,10 +59,47 @@ pub enum Refusal {
     FewerTold = 30,
 }
 
-impl Refusal {
-    pub fn number(self) -> u8
-        ensures { result ≡ number_of self }
-    {
-        self as u8
+impl From<Refusal> for u8 {
+    ghost from_gives = { λ r n. n ≡ number_of r };
+
+    fn from(refusal: Refusal) -> u8 {
+        refusal as u8
     }
 }
+
+impl fmt::Display for Refusal {
+    fn fmt<W: fmt::Write>(&self, f: &mut fmt::Formatter<W>) -> fmt::Result {
+        f.write_str(match self {
+            Refusal::OutOfRange => "a literal or a switch is not one of 1 to 64 in size",
+            Refusal::TermCount =>
+                "a rule has no terms, more than 16, or two lists of unequal length",
+            Refusal::Weight =>
+                "a weight is 0, too large, above the one before it, or not 1 in a book's clause",
+            Refusal::SwitchTwice => "a rule has a switch twice",
+            Refusal::Degree => "a degree or an at-most bound is not one that a rule may have",
+            Refusal::NamesLine => "a book's first line is not the five names, or has no line break",
+            Refusal::Fields =>
+                "a book's line is not five fields parted by one space and ended by a line break",
+            Refusal::NotNumber => "a book's field is no number",
+            Refusal::KindLetter => "a book's kind letter is unknown",
+            Refusal::RuleOrder =>
+                "a rule number does not continue, or the kind or the bound changes within a rule",
+            Refusal::KindOrder => "a linear rule comes after a clause in a book",
+            Refusal::BookLength => "a book has too many bytes",
+            Refusal::NoSuchPlace =>
+                "there is no such rule, term or trail place, or a level is above 64",
+            Refusal::DraftFull => "the draft holds as many rules as it can",
+            Refusal::ClashStands => "a clash stands",
+            Refusal::Unsettled => "the session is not settled",
+            Refusal::Stands => "the literal stands already",
+            Refusal::OppositeStands => "the opposite of the literal stands",
+            Refusal::LevelNotBelow => "the level is not below the present one",
+            Refusal::WrongReceipt => "the receipt is not of the clash that stands, or none stands",
+            Refusal::Shut => "the session is shut",
+            Refusal::SwitchFree => "the switch is free",
+            Refusal::FewerTold => "fewer literals were told",
+        })
+    }
+}
+
+impl Error for Refusal {}

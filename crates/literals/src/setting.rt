@@ -2,13 +2,15 @@ ghost use Rattle.std.specs.Prelude.{◌≡◌, ℕ, ◌-◌, not, ◌&&◌, ◌|
 ghost use Rattle.bits.specs.Words.{bit as has_bit};
 ghost use Rattle.literals.specs.declared.literal.Literal.{Literal as Lit};
 ghost use Rattle.literals.specs.Literals.{same, opposite};
-ghost use Rattle.literals.specs.Settings.{stands, free, free_switch, minus, plus, nothing, free_count, ◌⊆◌};
+ghost use Rattle.literals.specs.Refusals.{first_failed, refusal_of};
+ghost use Rattle.literals.specs.Settings.{stands, free, free_switch, minus, plus, nothing, free_count, side, with_side, taken_checks, ◌⊆◌};
 
 use crate::literal::Literal;
+use crate::refusal::Refusal;
 
 // A set of literals: bit n - 1 of the word `on` says that literal n is in it, the same bit of `off` that -n is.
 // Both literals of a switch may be in it.
-#[derive(Clone, Copy)]
+#[derive(Clone, Copy, Debug, PartialEq, Eq, Hash)]
 pub struct Setting {
     pub(crate) on: u64,
     pub(crate) off: u64,
@@ -16,6 +18,7 @@ pub struct Setting {
 
 impl Setting {
     // No literal is in it.
+    #[tactic(auto, unfolding(crate::specs::Settings::nothing))]
     pub fn new() -> Setting
         ensures { result ≡ nothing }
     {
@@ -23,6 +26,7 @@ impl Setting {
     }
 
     // The literal is in the set.
+    #[tactic(auto, unfolding(crate::specs::Settings::stands))]
     pub fn stands(&self, l: Literal) -> bool
         ensures { result ≡ stands self.now l }
     {
@@ -34,15 +38,46 @@ impl Setting {
     pub fn is_false(&self, l: Literal) -> bool
         ensures { result ≡ stands self.now (opposite l) }
     {
-        let word = if l.on { self.off } else { self.on };
-        (word >> (l.switch - 1)) % 2 == 1
+        self.stands(l.opposite())
     }
 
     // Neither literal of its switch is in the set.
+    #[tactic(auto, using(crate::proofs::Freedom::free_word))]
     pub fn is_free(&self, l: Literal) -> bool
         ensures { result ≡ free self.now l }
     {
         ((self.on | self.off) >> (l.switch - 1)) % 2 == 0
+    }
+
+    // Refused by 24 where the literal stands, by 25 where its opposite does.
+    pub fn check_free(&self, l: Literal) -> Result<(), Refusal>
+        ensures { refusal_of result ≡ first_failed (taken_checks self.now l) }
+    {
+        if self.stands(l) {
+            return Err(Refusal::Stands);
+        }
+        if self.is_false(l) {
+            return Err(Refusal::OppositeStands);
+        }
+        Ok(())
+    }
+
+    // The set with the word of the literal's side changed by `step`.
+    fn changed<F: FnOnce(u64) -> u64>(self, l: Literal, step: F) -> Setting
+        requires { F.pre step (side self l) }
+        ensures { (word : ℕ) × F.post step (side self l) word × (result ≡ with_side self l word) }
+    {
+        if l.on {
+            Setting {
+                on: step(self.on),
+                ..self
+            }
+        } else {
+            Setting {
+                off: step(self.off),
+                ..self
+            }
+        }
     }
 
     // The set with the literal added.
@@ -51,17 +86,7 @@ impl Setting {
         ensures stands { (m : Lit) → stands result m ≡ (same l m || stands self m) }
     {
         let bit = 1u64 << (l.switch - 1);
-        if l.on {
-            Setting {
-                on: self.on | bit,
-                off: self.off,
-            }
-        } else {
-            Setting {
-                on: self.on,
-                off: self.off | bit,
-            }
-        }
+        self.changed(l, |word| word | bit)
     }
 
     // The set with the literal taken out.
@@ -69,18 +94,8 @@ impl Setting {
         ensures words { result ≡ minus self l }
         ensures stands { (m : Lit) → stands result m ≡ (not (same l m) && stands self m) }
     {
-        let others = !(1u64 << (l.switch - 1));
-        if l.on {
-            Setting {
-                on: self.on & others,
-                off: self.off,
-            }
-        } else {
-            Setting {
-                on: self.on,
-                off: self.off & others,
-            }
-        }
+        let bit = 1u64 << (l.switch - 1);
+        self.changed(l, |word| word & !bit)
     }
 
     // Every literal of the other set is in this one.

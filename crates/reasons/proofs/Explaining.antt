@@ -1,6 +1,8 @@
 -- What is told of a standing switch, and of a free one.
 use Rattle.std.proofs.Common.{◌≡◌, ℕ, ◌-◌, ◌≤◌, Bool, true, false, cond, not, ◌&&◌, ◌⊎◌, List, Some, None, Option, Decides, sym, refl, ap, ◌∙◌, subst, inl, inr, ⊎_elim, arith}
 use Rattle.std.proofs.lemmas.Bool.{le-ltb, or_from}
+use Rattle.std.proofs.Props.{props}
+use Rattle.std.proofs.Math.Logic.{∥∥₁_elim}
 use Rattle.bits.specs.Words.{bit}
 use Rattle.literals.specs.declared.literal.Literal.{Literal}
 use Rattle.literals.specs.declared.refusal.Refusal.TheVariants.{OutOfRange, SwitchFree}
@@ -26,11 +28,11 @@ use Rattle.reasons.proofs.Marking.{place_mentioned}
 
 -- ---- the trail of a session
 
-pub trail_once : (rules : List Meaning) (t : List Step) → Traced rules t → distinct (literals_on t) ≡ true
-trail_once rules t h = subst (λ (u : List Step). distinct (literals_on u) ≡ true) h.trail (once rules (run_keeps rules h.run).trail)
+pub trail_once : (rules : List Meaning) (t : List Step) → ∥ Traced rules t ∥₁ → distinct (literals_on t) ≡ true
+trail_once rules t some = ∥∥₁_elim some (hlevel props) (λ h. subst (λ (u : List Step). distinct (literals_on u) ≡ true) h.trail (once rules (run_keeps rules h.run).trail))
 
-pub trail_because : (rules : List Meaning) (t : List Step) → Every rules Lawful → Traced rules t → Because rules t
-trail_because rules t lawful h = subst (Because rules) h.trail (because rules lawful (run_keeps rules h.run).trail)
+pub trail_because : (rules : List Meaning) (t : List Step) → Every rules Lawful → ∥ Traced rules t ∥₁ → Because rules t
+trail_because rules t lawful some = ∥∥₁_elim some (hlevel props) (λ h. subst (Because rules) h.trail (because rules lawful (run_keeps rules h.run).trail))
 
 -- ---- free or not
 

@@ -80,7 +80,7 @@ impl<'a, S: Shelf> Trail<'a, S> {
 
 // Why a switch stands on the trail of a session over this shelf. Refused by 1, or by 29 where it is free.
 pub fn explain<S: Shelf>(shelf: &S, steps: &[Step], switch: u32) -> Result<Why, Refusal>
-    requires trail { Traced (S.Shelf.rules shelf.now) steps.now }
+    requires trail { ∥ Traced (S.Shelf.rules shelf.now) steps.now ∥₁ }
     ensures refused { refusal_of result ≡ first_failed (why_checks steps.now switch) }
     ensures explains { IfOk result (λ w. Explains (S.Shelf.rules shelf.now) steps.now switch w.rule w.word) }
 {

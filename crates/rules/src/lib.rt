@@ -7,6 +7,7 @@ ghost use Rattle.rules.specs.Rules.{Forces, Grows, Ignores, FirstForced};
 ghost use Rattle.rules.specs.Scans.{Scans};
 
 use literals::{Literal, Setting};
+use std::fmt;
 
 // A kind of rule means which sets of literals break it and which switches it mentions. It owes two laws: a set that
 // contains a breaking set breaks the rule too, and a breaking set still breaks it when the literals of switches that
@@ -44,7 +45,7 @@ pub trait Rule {
 }
 
 // What a list of rules, numbered from 1, has to say of a set.
-#[derive(Clone, Copy)]
+#[derive(Clone, Copy, Debug, PartialEq, Eq, Hash)]
 pub enum Verdict {
     // No rule is broken, and none forces a literal.
     Quiet,
@@ -54,7 +55,18 @@ pub enum Verdict {
     Forced(usize, Literal),
 }
 
+impl fmt::Display for Verdict {
+    fn fmt<W: fmt::Write>(&self, f: &mut fmt::Formatter<W>) -> fmt::Result {
+        match self {
+            Verdict::Quiet => f.write_str("quiet"),
+            Verdict::Broken(r) => write!(f, "rule {r} is broken"),
+            Verdict::Forced(r, l) => write!(f, "rule {r} forces {l}"),
+        }
+    }
+}
+
 // The lowest-numbered rule that is broken or forces a literal.
+#[tactic(auto, using(crate::proofs::Numbers::found))]
 pub fn scan<R: Rule>(records: &[R], set: &Setting) -> Verdict
     ensures { Scans R.breaks records.now set.now result }
 {

@@ -4,6 +4,7 @@ use Rattle.std.proofs.lemmas.List.{length-map, take_more, take-map, get_or-map}
 use Rattle.literals.specs.declared.setting.Setting.{Setting}
 use Rattle.literals.specs.Settings.{minus, set_of}
 use Rattle.lists.specs.Lists.{distinct}
+use Rattle.lists.proofs.Sets.{distinct-take}
 use Rattle.rules.proofs.Numbers.{numbered_at, numbered_low}
 use Rattle.told.proofs.Telling.{back_one}
 use Rattle.runs.specs.declared.step.Step.{Step}
@@ -38,3 +39,8 @@ set_less t n x s s' d p q is e f =
   where
     at : x.literal ≡ get_or (literals_on t) (n - 1) x.literal
     at = ap (λ (y : Step). y.literal) is ∙ sym (get_or-map (λ (y : Step). y.literal) t (n - 1) x x.literal (omega arith))
+
+-- no switch stands twice on a front
+pub cut_once : (t u : List Step) (n : ℕ) → u ≡ take n t → distinct (literals_on t) ≡ true → distinct (literals_on u) ≡ true
+cut_once t u n e d =
+    ap (λ (x : List Step). distinct (literals_on x)) e ∙ ap distinct (sym (take-map (λ (x : Step). x.literal) n t)) ∙ distinct-take n (literals_on t) d

@@ -1,11 +1,11 @@
 ghost use Rattle.std.specs.Prelude.{◌≡◌};
 
 use literals::Refusal;
+use runs::Clash;
 
-// Stands for a clash. It cannot be let go: going back from the clash or closing the session takes it.
+// Stands for a clash, with the letter of the shelf that holds its rule. It cannot be let go: going back from the clash or closing the session takes it.
 pub struct Receipt {
-    pub(crate) rule: usize,
-    pub(crate) level: u8,
+    pub(crate) clash: Clash,
     pub(crate) letter: char,
 }
 
@@ -23,18 +23,25 @@ pub enum Outcome {
 }
 
 impl Receipt {
+    // The rule that is broken, and the level.
+    pub fn clash(&self) -> Clash
+        ensures { result ≡ self.now.clash }
+    {
+        self.clash
+    }
+
     // The rule that is broken.
     pub fn rule(&self) -> usize
-        ensures { result ≡ self.now.rule }
+        ensures { result ≡ self.now.clash.rule }
     {
-        self.rule
+        self.clash.rule
     }
 
     // The level of the clash.
     pub fn level(&self) -> u8
-        ensures { result ≡ self.now.level }
+        ensures { result ≡ self.now.clash.level }
     {
-        self.level
+        self.clash.level
     }
 
     // The letter of the shelf that holds the rule.
@@ -47,8 +54,7 @@ impl Receipt {
     // Going back and closing end here.
     pub(crate) fn spend(self) {
         let Receipt {
-            rule: _,
-            level: _,
+            clash: _,
             letter: _,
         } = self;
     }

@@ -1,7 +1,8 @@
-ghost use Rattle.std.specs.Prelude.{◌≡◌, [], ◌∷◌, ◌++◌, length, take, if◌then◌else◌, nat_lt};
+ghost use Rattle.std.specs.Prelude.{◌≡◌, ◌<◌, ◌↔◌, [], ◌∷◌, ◌++◌, length, take, IsOk, OnOk, OnErr};
 ghost use Rattle.bounded.specs.Held.{held};
 
 use crate::bounded::Bounded;
+use crate::full::Full;
 
 impl<T: Copy, const N: usize> Bounded<T, N> {
     // Holds nothing; `fill` stands in the places not in use.
@@ -14,25 +15,24 @@ impl<T: Copy, const N: usize> Bounded<T, N> {
         }
     }
 
-    // Puts x behind the last; false, and nothing done, where there is no room.
-    pub fn push(&mut self, x: T) -> bool
-        ensures room { result ≡ nat_lt (length (held self.old)) N }
-        ensures items { held self.new ≡ (if result then held self.old ++ x ∷ [] else held self.old) }
+    // Puts x behind the last; nothing is done where there is no room.
+    pub fn push(&mut self, x: T) -> Result<(), Full>
+        ensures room { IsOk result ↔ (length (held self.old) < N) }
+        ensures pushed { OnOk result (held self.new ≡ held self.old ++ x ∷ []) }
+        ensures full { OnErr result (self.new ≡ self.old) }
     {
-        if self.len >= N {
-            return false;
+        if self.len == N {
+            return Err(Full);
         }
         self.items[self.len] = x;
         self.len += 1;
-        true
+        Ok(())
     }
 
     // Keeps the first n.
     pub fn truncate(&mut self, n: usize)
         ensures { held self.new ≡ take n (held self.old) }
     {
-        if n < self.len {
-            self.len = n;
-        }
+        self.len = self.len.min(n);
     }
 }

@@ -13,7 +13,6 @@ impl<T: Copy, const N: usize> Bounded<T, N> {
     pub fn as_slice(&self) -> &[T]
         ensures { result.now ≡ held self.now }
     {
-        let all = &self.items[..];
-        &all[0..self.len]
+        &self.items[..self.len]
     }
 }

@@ -1,8 +1,8 @@
-ghost use Rattle.std.specs.Prelude.{◌≡◌, ◌<◌, true, [], ◌∷◌, ◌++◌, length, take};
+ghost use Rattle.std.specs.Prelude.{◌≡◌, true, [], ◌∷◌, ◌++◌, length, take};
 ghost use Rattle.bounded.specs.Held.{held};
 ghost use Rattle.lists.specs.Lists.{distinct};
-ghost use Rattle.literals.specs.Settings.{nothing, plus};
-ghost use Rattle.runs.specs.Views.{literals_on, opened, standing as set-standing, step as stepped};
+ghost use Rattle.literals.specs.Settings.{free};
+ghost use Rattle.runs.specs.Views.{literals_on, opened, standing as set-standing};
 ghost use Rattle.session.specs.Logs.{Front, view_of};
 
 use crate::log::Log;
@@ -37,13 +37,12 @@ fn set_of_first(steps: &[Step], set: Setting, n: usize) -> Setting
 impl Log {
     // Nothing stands, unsettled, at level 0.
     pub(crate) fn new() -> Log
-        ensures view { view_of result ≡ opened }
-        ensures set { result.standing ≡ nothing }
+        ensures { view_of result ≡ opened }
     {
         let none = Step {
             literal: Literal::FIRST,
             level: 0,
-            rule: 0,
+            rule: None,
         };
         Log {
             steps: Bounded::new(none),
@@ -53,29 +52,21 @@ impl Log {
         }
     }
 
-    // Puts a literal on the trail.
-    pub(crate) fn push(&mut self, literal: Literal, level: u8, rule: usize)
-        requires { length (held self.old.steps) < 64 }
-        ensures steps { held self.new.steps ≡ held self.old.steps ++ stepped literal level rule ∷ [] }
-        ensures set { self.new.standing ≡ plus self.old.standing literal }
+    // Puts a free literal on the trail.
+    pub(crate) fn push(&mut self, step: Step)
+        requires { free (set-standing (held self.old.steps)) step.literal ≡ true }
+        ensures steps { held self.new.steps ≡ held self.old.steps ++ step ∷ [] }
         ensures state { self.new.state ≡ self.old.state }
         ensures level { self.new.level ≡ self.old.level }
     {
-        let _ = self.steps.push(Step {
-            literal,
-            level,
-            rule,
-        });
-        self.standing = self.standing.with(literal);
+        let _ = self.steps.push(step);
+        self.standing = self.standing.with(step.literal);
     }
 
     // Drops the steps above level k, and tells how many are left.
     pub(crate) fn cut(&mut self, k: u8) -> usize
-        requires once { distinct (literals_on (held self.old.steps)) ≡ true }
-        requires set { self.old.standing ≡ set-standing (held self.old.steps) }
         ensures front { Front k (held self.old.steps) result }
         ensures steps { held self.new.steps ≡ take result (held self.old.steps) }
-        ensures set { self.new.standing ≡ set-standing (held self.new.steps) }
         ensures state { self.new.state ≡ self.old.state }
         ensures level { self.new.level ≡ self.old.level }
     {

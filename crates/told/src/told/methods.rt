@@ -1,4 +1,4 @@
-ghost use Rattle.std.specs.Prelude.{◌≡◌, [], length, take, MatchResult};
+ghost use Rattle.std.specs.Prelude.{◌≡◌, ◌≤◌, [], length, take, MatchResult};
 ghost use Rattle.literals.specs.Refusals.{first_failed, refusal_of};
 ghost use Rattle.literals.specs.Settings.{set_of};
 ghost use Rattle.told.specs.Lists.{told_of};
@@ -42,13 +42,9 @@ impl Told {
         ensures refused { refusal_of result ≡ first_failed (tell_checks (told_of self.old) n) }
         ensures told { MatchResult result (λ _. Appended (told_of self.old) n (told_of self.new)) (λ _. self.new ≡ self.old) }
     {
-        let l = Literal::new(n)?;
-        if self.set.stands(l) {
-            return Err(Refusal::Stands);
-        }
-        if self.set.is_false(l) {
-            return Err(Refusal::OppositeStands);
-        }
+        let l = Literal::try_from(n)?;
+        self.set.check_free(l)?;
+        // There is room: each literal has one of 64 switches to itself.
         let _ = self.literals.push(l);
         self.set = self.set.with(l);
         Ok(())
@@ -62,20 +58,19 @@ impl Told {
         if n > self.literals.len() {
             return Err(Refusal::FewerTold);
         }
-        let set = self.set_of_first(n);
+        self.set = self.set_of_first(n);
         self.literals.truncate(n);
-        self.set = set;
         Ok(())
     }
 
     // The set without the literals from place n on, the latest taken out first.
     fn set_of_first(&self, n: usize) -> Setting
+        requires { n ≤ length (told_of self.now) }
         ensures { result ≡ set_of (take n (told_of self.now)) }
     {
-        let told = self.as_slice();
         let mut set = self.set;
-        for i in (n..told.len()).rev() {
-            set = set.without(told[i]);
+        for l in self.as_slice()[n..].iter().rev() {
+            set = set.without(*l);
         }
         set
     }

@@ -1,13 +1,12 @@
-use Rattle.std.proofs.Common.{List, ap, ◌∙◌, take_all}
+use Rattle.std.proofs.Common.{eqb, ◌∙◌, rules}
+use Rattle.std.proofs.lemmas.Iterator.{YieldsList-from_slice}
+use Rattle.std.proofs.lemmas.Iterator.Search.{any_from_yields_List}
 use Rattle.literals.specs.declared.literal.Literal.{Literal}
-use Rattle.lists.specs.Lists.{mentioned}
-use Rattle.lists.proofs.Distinct.{mentioned_more}
+use Rattle.lists.proofs.Distinct.{any_mentioned}
 use Rattle.lists.proofs.slices.mentions.Goals as goal
 
-pub loop-l-preserved : goal.loop-l-preserved
-loop-l-preserved c =
-    let e = mentioned_more c.args.literals.now c.args.switch c.loop-l.l-index c.l-item.result c.loop-l-test.true c.l-item.is in
-    cc
-
 pub returns : goal.returns
-returns c = c.loop-l.invariant ∙ ap (λ (xs : List Literal). mentioned xs c.args.switch) (take_all _ _ c.loop-l-test.false)
+returns c =
+    let ls = c.args.literals.now in
+    any_from_yields_List (λ (l : Literal). eqb l.switch c.args.switch) _ _ _ c.any.ensures.ran (YieldsList-from_slice ls cc) (λ x b q k. search rules)
+    ∙ any_mentioned ls c.args.switch

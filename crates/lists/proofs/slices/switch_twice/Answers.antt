@@ -1,20 +1,13 @@
-use Rattle.std.proofs.Common.{◌+◌, Bool, not, ◌&&◌, drop, sym, ap, ◌∙◌}
-use Rattle.std.proofs.lemmas.List.{at_drop_all}
-use Rattle.lists.specs.Lists.{distinct}
-use Rattle.lists.proofs.Distinct.{distinct_more}
+use Rattle.std.proofs.Common.{not, sym, ap, ◌∙◌}
+use Rattle.lists.proofs.Sets.{twice_here, new_here}
 use Rattle.lists.proofs.slices.switch_twice.Goals as goal
 
-pub returns-then-mentions : goal.returns-then-mentions
-returns-then-mentions c =
-    let ls = c.args.literals.now in
-    ap not (sym (c.loop-i.invariant ∙ distinct_more ls c.loop-i.i c.switch.result c.index-literals-i.result _ c.loop-i-test.true c.index-literals-i.is c.switch.ensures c.mentions.ensures
-    ∙ ap (λ (b : Bool). not b && distinct (drop (c.loop-i.i + 1) ls)) c.if-mentions.true))
+pub returns-then-not-is_free : goal.returns-then-not-is_free
+returns-then-not-is_free c =
+    let twice = twice_here c.args.literals.now c.loop-l.l-index c.l-item.result c.loop-l.seen c.loop-l-test.true c.l-item.is in
+    ap not (sym (twice c.loop-l.invariant.1 (sym c.is_free.ensures ∙ c.if-not-is_free.true)))
 
-pub loop-i-preserved : goal.loop-i-preserved
-loop-i-preserved c =
-    let ls = c.args.literals.now in
-    c.loop-i.invariant ∙ distinct_more ls c.loop-i.i c.switch.result c.index-literals-i.result _ c.loop-i-test.true c.index-literals-i.is c.switch.ensures c.mentions.ensures
-    ∙ ap (λ (b : Bool). not b && distinct (drop (c.loop-i.i + 1) ls)) c.if-mentions.false
-
-pub returns : goal.returns
-returns c = ap not (sym (c.loop-i.invariant ∙ at_drop_all distinct c.args.literals.now c.loop-i.i c.loop-i-test.false))
+pub loop-l-preserved : goal.loop-l-preserved
+loop-l-preserved c =
+    let new = new_here c.args.literals.now c.loop-l.l-index c.l-item.result c.loop-l.seen c.loop-l-test.true c.l-item.is in
+    new c.with-seen.result c.loop-l.invariant.0 c.loop-l.invariant.1 (sym c.is_free.ensures ∙ c.if-not-is_free.false) c.with-seen.ensures.words

@@ -1,6 +1,7 @@
-use Rattle.std.proofs.Common.{◌≡◌, map, length, take}
+use Rattle.std.proofs.Common.{◌≡◌, map, take}
+use Rattle.bounded.specs.Held.{held}
 use Rattle.literals.specs.Literals.{opposite}
 use Rattle.lists.proofs.held.Literals.opposites.Given as goal
 
-abbrev pub invariant-loop-i : goal.invariant-loop-i
-invariant-loop-i l = (length l.items ≡ 16) × (take l.i l.items ≡ map opposite (take l.i l.l-items))
+abbrev pub invariant-loop-l : goal.invariant-loop-l
+invariant-loop-l l = held l.items ≡ map opposite (take l.l-index l.l-items)

@@ -1,7 +1,8 @@
-use Rattle.std.proofs.Common.{◌≡◌, false, map, length, take}
+use Rattle.std.proofs.Common.{◌≡◌, false, map, take}
+use Rattle.bounded.specs.Held.{held}
 use Rattle.literals.specs.Literals.{number}
 use Rattle.lists.specs.Lists.{some_outside}
 use Rattle.lists.proofs.held.Literals.read.Given as goal
 
-abbrev pub invariant-loop-i : goal.invariant-loop-i
-invariant-loop-i l = (length l.items ≡ 16) × (some_outside (take l.i l.numbers) ≡ false) × (map number (take l.i l.items) ≡ take l.i l.numbers)
+abbrev pub invariant-loop-n : goal.invariant-loop-n
+invariant-loop-n l = (some_outside (take l.n-index l.numbers) ≡ false) × (map number (held l.items) ≡ take l.n-index l.numbers)

@@ -9,6 +9,6 @@ pub invariant_of-self : goal.invariant_of-self
 invariant_of-self c =
     let e = c.truncate.ensures in
     record {
-      agrees = c.set_of_first-set.ensures ∙ ap set_of (sym e);
+      agrees = c.set_of_first-self.ensures ∙ ap set_of (sym e);
       once = ap distinct e ∙ distinct-take c.args.n (held c.args.self.now.literals) c.args.self.now.once;
     }

@@ -1,7 +1,0 @@
-use Rattle.std.proofs.Common.{rules}
-use Rattle.literals.specs.Settings.{stands}
-use Rattle.literals.proofs.setting.Setting.stands.Goals as goal
-
-pub returns : goal.returns
-unfolding stands
-returns c = search rules
