@@ -63,7 +63,8 @@ impl Told {
         Ok(())
     }
 
-    // The set without the literals from place n on, the latest taken out first.
+    // The set without the literals from place n on, the latest taken out first. A trail does so over its steps: one function
+    // for both would be handed the literal of each element by a closure, and be longer than the two loops.
     fn set_of_first(&self, n: usize) -> Setting
         requires { n ≤ length (told_of self.now) }
         ensures { result ≡ set_of (take n (told_of self.now)) }
