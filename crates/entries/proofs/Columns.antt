@@ -74,5 +74,8 @@ names_read fs good wrong (Ok cs) a b = all_named good fs cs a.whole
 names_read fs good wrong (Err u) a b = one_unnamed fs b.0 b.1 (wrong b.0 u b.2 b.3 b.4)
 
 -- columns of which one comes twice are no order of the line that names them
-pub named_apart : (w : List (List ℕ)) (cs : List Column) (o : Order) → w ≡ map name_of cs → Names w o → Apart cs
-named_apart w cs o e n = subst Apart (one_list o.columns cs (sym n.names ∙ e)) o.once
+pub names_apart : (w : List (List ℕ)) (cs : List Column) → (Apart cs → ⊥) → w ≡ map name_of cs → (o : Order) → Names w o → ⊥
+names_apart w cs twice e o n = twice (subst Apart (one_list o.columns cs (sym n.names ∙ e)) o.once)
+
+pub columns_apart : (o : Order) → Apart o.columns
+columns_apart o = o.once

@@ -54,7 +54,7 @@ one_order w o p a b = same_order o.columns p.columns o.five o.once p.five p.once
 
 -- ---- each column is that of some field
 
-code_of : Column → ℕ
+pub code_of : Column → ℕ
 code_of Rule = 0
 code_of Kind = 1
 code_of Bound = 2
@@ -72,13 +72,24 @@ of_code_of Bound = refl
 of_code_of Weight = refl
 of_code_of Switch = refl
 
+pub one_code : (c d : Column) → code_of c ≡ code_of d → c ≡ d
+one_code c d e = sym (of_code_of c) ∙ (ap of_code e ∙ of_code_of d)
+
+pub code_small : (c : Column) → code_of c < 5
+unfolding code_of
+code_small Rule = omega arith
+code_small Kind = omega arith
+code_small Bound = omega arith
+code_small Weight = omega arith
+code_small Switch = omega arith
+
 abbrev alike : Column → Column → Bool
 alike c d = eqb (code_of c) (code_of d)
 
 alike_decides : (c d : Column) → Decides (alike c d) (c ≡ d)
 alike_decides c d =
     let codes = Decides-eqb (code_of c) (code_of d) in
-    (λ e. sym (of_code_of c) ∙ (ap of_code (codes.0 e) ∙ of_code_of d), λ e. codes.1 (ap code_of e))
+    (λ e. one_code c d (codes.0 e), λ e. codes.1 (ap code_of e))
 
 alike_equiv : IsEquivalence alike
 alike_equiv = record {

@@ -11,7 +11,7 @@ use Rattle.lines.specs.Lines.{FieldsAt, LineAt, NoLineAt, closes, after, places}
 
 -- ---- where the next field is missing
 
-no_fields : (t : List ℕ) (p : ℕ) (cs : List Close) (w : List (List ℕ)) (c : Close) (ds : List Close) (v : List (List ℕ))
+pub no_fields : (t : List ℕ) (p : ℕ) (cs : List Close) (w : List (List ℕ)) (c : Close) (ds : List Close) (v : List (List ℕ))
     → FieldsAt t p cs w → NoFieldAt t (after p w) (byte_of c) → FieldsAt t p (cs ++ c ∷ ds) v → ⊥
 no_fields t p [] [] c ds [] a n b = b
 no_fields t p [] [] c ds (h ∷ v) a n b = n h b.0
@@ -39,7 +39,7 @@ no_line {t} {s} {p} {fs} {i} {at} r h same n v b =
 
 -- ---- one line stands at a place
 
-same_fields : (t : List ℕ) (p : ℕ) (cs : List Close) (v w : List (List ℕ)) → FieldsAt t p cs v → FieldsAt t p cs w → v ≡ w
+pub same_fields : (t : List ℕ) (p : ℕ) (cs : List Close) (v w : List (List ℕ)) → FieldsAt t p cs v → FieldsAt t p cs w → v ≡ w
 same_fields t p [] [] [] a b = refl
 same_fields t p [] [] (h ∷ w) a b = absurd b
 same_fields t p [] (g ∷ v) w a b = absurd a

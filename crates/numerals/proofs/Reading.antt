@@ -1,5 +1,5 @@
 -- Reading digit by digit; a text writes one number at most.
-use Rattle.std.proofs.Common.{◌≡◌, ℕ, ◌-◌, ◌^◌, ◌<◌, ◌≤◌, List, [], ◌∷◌, length, get_or, take, drop, ℤ, pos, neg_ℤ, sym, ap, ◌∙◌, subst, arith, lit≤}
+use Rattle.std.proofs.Common.{◌≡◌, ℕ, ◌-◌, ◌^◌, ◌<◌, ◌≤◌, List, [], ◌∷◌, length, get_or, take, drop, ℤ, pos, neg_ℤ, sym, refl, ap, ◌∙◌, subst, arith, lit≤}
 use native.Mathlib.Nat.{pow-le-pow_right}
 use Rattle.std.proofs.lemmas.List.{take_rest}
 use Rattle.numerals.specs.Numerals.{Numeral, SignedNumeral, plain, minus}
@@ -40,3 +40,7 @@ module _ (t : List ℕ) (some : 0 < length t) (first : get_or t 0 0 ≡ 45) wher
 
   pub minus_none : ((n : ℕ) → Numeral rest n → ⊥) → (z : ℤ) → SignedNumeral t z → ⊥
   minus_none no1 z w = none_after t z w rest split_minus (λ n p m. no1 n m)
+
+pub plain_none : (t : List ℕ) → (get_or t 0 0 ≡ 45 → ⊥) → ((n : ℕ) → Numeral t n → ⊥) → (z : ℤ) → SignedNumeral t z → ⊥
+plain_none _ first no1 _ (plain m) = no1 _ m
+plain_none _ first no1 _ (minus m p) = first refl

@@ -1,6 +1,6 @@
 use Rattle.std.proofs.Common.{refl, inl, inr}
 use Rattle.std.proofs.lemmas.List.{take_rest}
-use Rattle.cursor.proofs.Fields.{none_left, none_here, not_plain}
+use Rattle.cursor.proofs.Fields.{none_left, no_field_here, not_plain}
 use Rattle.cursor.proofs.reader.Reader.field_before.Goals as goal
 use Rattle.cursor.proofs.reader.Reader.field_before.Goals.{then-end-eq0-via-then-end-eq0, then-end-eq0-via-else-end-eq0+then-rest-end}
 
@@ -10,7 +10,7 @@ returns-in_err-end-clause-reads c =
 
 pub returns-then-end-eq0-clause-reads : goal.returns-then-end-eq0-clause-reads
 returns-then-end-eq0-clause-reads c = (
-  none_here _ _ _ (not_plain c.args.close) _ (rw take_rest at c.in_ok-end.ensures) (elim c.then-end-eq0.branch [
+  no_field_here _ _ _ (rw take_rest at c.in_ok-end.ensures) _ (not_plain c.args.close) (elim c.then-end-eq0.branch [
     | then-end-eq0-via-then-end-eq0 w ↦ inl w.if-end-eq0.true
     | then-end-eq0-via-else-end-eq0+then-rest-end w ↦ inr (rw (take_rest, w.byte.ensures) at w.if-rest-end.true)
   ]),
