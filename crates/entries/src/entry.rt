@@ -9,6 +9,8 @@ use cursor::Field;
 use lines::Line;
 use literals::Refusal;
 use numerals::{signed, unsigned};
+use std::error::Error;
+use std::fmt;
 
 // The values of a line, as they are written there.
 #[derive(Clone, Copy, Debug, PartialEq, Eq)]
@@ -21,11 +23,19 @@ pub struct Entry {
 }
 
 // A field that writes no value of its column: the refusal, and the place of the field.
-#[derive(Clone, Copy)]
+#[derive(Clone, Copy, Debug, PartialEq, Eq)]
 pub struct BadField {
     pub refusal: Refusal,
     pub place: usize,
 }
+
+impl fmt::Display for BadField {
+    fn fmt<W: fmt::Write>(&self, f: &mut fmt::Formatter<W>) -> fmt::Result {
+        write!(f, "at byte {}: {}", self.place, self.refusal)
+    }
+}
+
+impl Error for BadField {}
 
 // What a field is refused by that writes no value of the column.
 fn wrong(column: Column) -> Refusal
