@@ -42,6 +42,7 @@ impl Setting {
     }
 
     // Neither literal of its switch is in the set.
+    #[tactic(auto, using(crate::proofs::Freedom::free_word))]
     pub fn is_free(&self, l: Literal) -> bool
         ensures { result ≡ free self.now l }
     {
