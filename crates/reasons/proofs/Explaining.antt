@@ -1,6 +1,8 @@
 -- What is told of a standing switch, and of a free one.
-use Rattle.std.proofs.Common.{◌≡◌, ℕ, ◌+◌, ◌-◌, ◌<◌, ◌≤◌, Bool, true, false, cond, not, ◌&&◌, ◌||◌, ltb, ◌⊎◌, List, length, get_or, Some, None, Decides, sym, refl, ap, ◌∙◌, subst, inl, inr, ⊎_elim, arith}
-use Rattle.std.proofs.lemmas.Bool.{le-ltb}
+use Rattle.std.proofs.Common.{◌≡◌, ℕ, ◌-◌, ◌≤◌, Bool, true, false, cond, not, ◌&&◌, ◌⊎◌, List, Some, None, Option, Decides, sym, refl, ap, ◌∙◌, subst, inl, inr, ⊎_elim, arith}
+use Rattle.std.proofs.lemmas.Bool.{le-ltb, or_from}
+use Rattle.std.proofs.Props.{props}
+use Rattle.std.proofs.Math.Logic.{∥∥₁_elim}
 use Rattle.bits.specs.Words.{bit}
 use Rattle.literals.specs.declared.literal.Literal.{Literal}
 use Rattle.literals.specs.declared.refusal.Refusal.TheVariants.{OutOfRange, SwitchFree}
@@ -12,7 +14,7 @@ use Rattle.literals.proofs.Freedom.{free_is}
 use Rattle.lists.specs.Lists.{distinct, mentioned}
 use Rattle.lists.proofs.Sets.{set_free}
 use Rattle.rules.specs.Scans.{Numbered}
-use Rattle.rules.proofs.Numbers.{numbered_low, numbered_high, numbered_at}
+use Rattle.rules.proofs.Numbers.{numbered_low}
 use Rattle.shelf.specs.Meanings.{Meaning, Lawful, Every}
 use Rattle.runs.specs.declared.step.Step.{Step}
 use Rattle.runs.specs.Views.{literals_on, standing}
@@ -27,24 +29,21 @@ use Rattle.reasons.proofs.Marking.{place_mentioned}
 
 -- ---- the trail of a session
 
-pub trail_once : (rules : List Meaning) (t : List Step) → Traced rules t → distinct (literals_on t) ≡ true
-trail_once rules t h = subst (λ (u : List Step). distinct (literals_on u) ≡ true) h.trail (once rules (run_keeps rules h.run).trail)
+pub trail_once : (rules : List Meaning) (t : List Step) → ∥ Traced rules t ∥₁ → distinct (literals_on t) ≡ true
+trail_once rules t some = ∥∥₁_elim some (hlevel props) (λ h. subst (λ (u : List Step). distinct (literals_on u) ≡ true) h.trail (once rules (run_keeps rules h.run).trail))
 
-pub trail_because : (rules : List Meaning) (t : List Step) → Every rules Lawful → Traced rules t → Because rules t
-trail_because rules t lawful h = subst (Because rules) h.trail (because rules lawful (run_keeps rules h.run).trail)
+pub trail_because : (rules : List Meaning) (t : List Step) → Every rules Lawful → ∥ Traced rules t ∥₁ → Because rules t
+trail_because rules t lawful some = ∥∥₁_elim some (hlevel props) (λ h. subst (Because rules) h.trail (because rules lawful (run_keeps rules h.run).trail))
 
 -- ---- free or not
 
-module _ (t : List Step) (n : ℕ) (low : n < 1 → ⊥) (high : 64 < n → ⊥) where
+module _ (t : List Step) (n : ℕ) (low : 1 ≤ n) (high : n ≤ 64) where
   switch : no_switch n ≡ false
-  switch = neither (ltb n 1) (ltb 64 n) (le-ltb n 1 (omega arith)) (le-ltb 64 n (omega arith))
-    where
-      neither : (a b : Bool) → a ≡ false → b ≡ false → (a || b) ≡ false
-      neither a b p q = grind arith
+  switch = or_from _ _ (le-ltb n 1 low) (le-ltb 64 n high)
 
   -- a literal of the switch
   abbrev on_literal : Literal
-  on_literal = record { switch = n; on = true; range = (omega arith, omega arith) }
+  on_literal = record { switch = n; on = true; range = (low, high) }
 
   free_unless : free_switch (standing t) n ≡ not (mentioned (literals_on t) n)
   free_unless = sym (free_is (standing t) on_literal) ∙ set_free (literals_on t) on_literal
@@ -97,7 +96,7 @@ module _ (rules : List Meaning) (t : List Step) (place word : ℕ) (chosen : Set
           = (collected l).1 (record { place = r.place; step = r.step; at = r.at; behind = numbered_low r.at; is = refl; chosen = r.chosen; reached = r.reached }) in
           subst (λ (k : ℕ). free_switch chosen k ≡ false) r.switch (sym (free_is chosen l) ∙ taken (stands chosen l) (stands chosen (opposite l)) h)
 
-  pub explains : (n rule : ℕ) (x : Step) → Because rules t → Numbered t place x → x.literal.switch ≡ n → x.rule ≡ rule → Explains rules t n rule word
+  pub explains : (n : ℕ) (rule : Option ℕ) (x : Step) → Because rules t → Numbered t place x → x.literal.switch ≡ n → x.rule ≡ rule → Explains rules t n rule word
   explains n rule x b at e by =
       record {
         place = place;
@@ -110,10 +109,3 @@ module _ (rules : List Meaning) (t : List Step) (place word : ℕ) (chosen : Set
             (λ j y m reach z. holds j y m z ((exactly y.literal.switch y.literal.range.0 y.literal.range.1).1
             (record { place = j; step = y; at = m; reached = reach; chosen = z; switch = refl })));
       }
-
--- the place found is one of the trail
-pub place_within : (t : List Step) (i n : ℕ) → ((x : Step) × Numbered t (i + 1) x × (x.literal.switch ≡ n)) → i < length t
-place_within t i n h = let high = numbered_high h.1 in omega arith
-
-pub place_step : (t : List Step) (i : ℕ) (x d : Step) → Numbered t (i + 1) x → x ≡ get_or t i d
-place_step t i x d at = let e : (i + 1) - 1 ≡ i = omega arith in sym (numbered_at at d) ∙ ap (λ (k : ℕ). get_or t k d) e

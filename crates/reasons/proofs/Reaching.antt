@@ -1,20 +1,22 @@
 -- Going down the trail from a place marks exactly the places that it reaches.
-use Rattle.std.proofs.Common.{◌≡◌, ℕ, zero, suc, ◌+◌, ◌<◌, ◌≤◌, true, false, ◌⊎◌, List, [], ◌∷◌, take, sym, refl, ap, ◌∙◌, subst, inl, inr, ⊎_elim, arith}
+use Rattle.std.proofs.Common.{◌≡◌, ℕ, zero, suc, ◌+◌, ◌-◌, ◌<◌, ◌≤◌, true, false, ◌⊎◌, List, [], ◌∷◌, length, get_or, take, Some, None, sym, refl, ap, ◌∙◌, subst, inl, inr, ⊎_elim, arith}
 use Rattle.std.proofs.lemmas.Bool.{cases_eq}
+use Rattle.std.proofs.lemmas.List.{length-take-le, take-take}
+use Rattle.std.proofs.lemmas.Option.{none-some, same_Some}
 use Rattle.literals.specs.declared.literal.Literal.{Literal}
 use Rattle.literals.specs.declared.setting.Setting.{Setting}
 use Rattle.literals.specs.Settings.{stands, plus, nothing}
 use Rattle.literals.proofs.Standing.{nothing-stands, plus-has, plus_keeps, plus_cases}
 use Rattle.lists.specs.Lists.{distinct}
 use Rattle.rules.specs.Scans.{Numbered, first, later}
-use Rattle.rules.proofs.Numbers.{numbered_low, numbered_one, numbered_take}
+use Rattle.rules.proofs.Numbers.{numbered_one, numbered_take, at_numbered}
 use Rattle.shelf.specs.Meanings.{Meaning}
 use Rattle.runs.specs.declared.step.Step.{Step}
 use Rattle.runs.specs.Views.{literals_on}
 use Rattle.runs.specs.Reasons.{Leads, Reaches, itself, on}
 use Rattle.runs.proofs.Verdicts.{true_false}
-use Rattle.reasons.specs.Whys.{Mentions, Named, Marks, Marked, AllMarked, Chosen, Collected}
-use Rattle.reasons.proofs.Marking.{one_place}
+use Rattle.reasons.specs.Whys.{Mentions, Named, Marks, Marked, marked_by, AllMarked, Chosen, Collected, Sought}
+use Rattle.reasons.proofs.Marking.{one_place, marks_all}
 
 -- a place of the first k is one of the whole
 taken : {R : Type 0} (k : ℕ) (xs : List R) {r : ℕ} {x : R} → Numbered (take k xs) r x → Numbered xs r x × (r ≤ k)
@@ -40,7 +42,7 @@ module _ (rules : List Meaning) (t : List Step) where
   module _ (once : distinct (literals_on t) ≡ true) (p : ℕ) where
     -- ---- at the start only the place itself is marked
 
-    pub starts : (x : Step) → Numbered t p x → AllMarked rules t p p (plus nothing x.literal)
+    starts : (x : Step) → Numbered t p x → AllMarked rules t p p (plus nothing x.literal)
     starts x at k y n = (
       (λ h. ⊎_elim (λ (e : x.literal ≡ y.literal). inl (sym (one_place t once at n (ap (λ (l : Literal). l.switch) e))))
           (λ q. absurd (true_false q (nothing-stands y.literal))) (plus_cases nothing x.literal y.literal h)),
@@ -49,7 +51,7 @@ module _ (rules : List Meaning) (t : List Step) where
           (λ w. let low = reaches_low w.2 in let high = w.1 in absurd (omega arith)) h),
     )
 
-    pub none_yet : Collected rules t p p nothing
+    none_yet : Collected rules t p p nothing
     none_yet l = (
       (λ h. absurd (true_false h (nothing-stands l))),
       (λ (h : Chosen rules t p p l). let low = reaches_low h.reached in let high = h.behind in absurd (omega arith)),
@@ -81,7 +83,7 @@ module _ (rules : List Meaning) (t : List Step) where
       later_chosen : {l : Literal} → Chosen rules t p i l → Chosen rules t p m l
       later_chosen c = record { place = c.place; step = c.step; at = c.at; behind = let b = c.behind in omega arith; is = c.is; chosen = c.chosen; reached = c.reached }
 
-      same_chosen : (s : Setting) → (Reaches rules t p i → x.rule ≡ 0 → ⊥) → Collected rules t p i s → Collected rules t p m s
+      same_chosen : (s : Setting) → (Reaches rules t p i → x.rule ≡ None → ⊥) → Collected rules t p i s → Collected rules t p m s
       same_chosen s dead h l = (
         (λ e. later_chosen ((h l).0 e)),
         (λ (c : Chosen rules t p m l). (h l).1 (narrow c)),
@@ -98,17 +100,16 @@ module _ (rules : List Meaning) (t : List Step) where
         here : Reaches rules t p i → stands marked x.literal ≡ true
         here r = (all i x at).1 (reaches_marked r)
 
-        pub unmarked : stands marked x.literal ≡ false → AllMarked rules t p m marked × Collected rules t p m chosen
+        unmarked : stands marked x.literal ≡ false → AllMarked rules t p m marked × Collected rules t p m chosen
         unmarked e = (same_marked marked (λ k r l. true_false (here r) e) all, same_chosen chosen (λ r z. true_false (here r) e) some)
 
-        pub at_chosen : stands marked x.literal ≡ true → x.rule ≡ 0 → AllMarked rules t p m marked × Collected rules t p m (plus chosen x.literal)
+        at_chosen : stands marked x.literal ≡ true → x.rule ≡ None → AllMarked rules t p m marked × Collected rules t p m (plus chosen x.literal)
         at_chosen e z = (same_marked marked (λ k r l. nowhere k l) all, grown)
           where
             nowhere : (k : ℕ) → Leads rules t i k → ⊥
             nowhere k l =
                 let same : l.from ≡ x = numbered_one l.at at in
-                let zero_rule : l.from.rule ≡ 0 = ap (λ (y : Step). y.rule) same ∙ z in
-                let low = numbered_low l.mentions.numbered in omega arith
+                none-some l.rule (sym z ∙ ap (λ (y : Step). y.rule) (sym same) ∙ l.by)
 
             itself_chosen : (l : Literal) → x.literal ≡ l → Chosen rules t p m l
             itself_chosen l q = record { place = i; step = x; at = at; behind = omega arith; is = q; chosen = z; reached = marked_reaches ((all i x at).0 e) }
@@ -124,22 +125,22 @@ module _ (rules : List Meaning) (t : List Step) where
                   (split c.place c.behind)),
             )
 
-        pub at_locked : (marked' : Setting) → stands marked x.literal ≡ true → (x.rule ≡ 0 → ⊥) → Marks rules (take m t) x.rule marked marked'
+        at_locked : (rule : ℕ) (marked' : Setting) → stands marked x.literal ≡ true → x.rule ≡ Some rule → Marks rules (take m t) rule marked marked'
             → AllMarked rules t p m marked' × Collected rules t p m chosen
-        at_locked marked' e z marks = (more, same_chosen chosen (λ r q. z q) some)
+        at_locked rule marked' e z marks = (more, same_chosen chosen (λ r q. none-some rule (sym q ∙ z)) some)
           where
             more : AllMarked rules t p m marked'
             more k y n = (
-              (λ h. ⊎_elim (λ q. wider ((all k y n).0 q)) (λ (w : Named rules (take m t) x.rule y.literal). led w) ((marks y.literal).0 h)),
+              (λ h. ⊎_elim (λ q. wider ((all k y n).0 q)) (λ (w : Named rules (take m t) rule y.literal). led w) ((marks y.literal).0 h)),
               (λ h. back h),
             )
               where
-                led : Named rules (take m t) x.rule y.literal → Marked rules t p m k
+                led : Named rules (take m t) rule y.literal → Marked rules t p m k
                 led w =
                     let there = taken m t w.at in
                     let same : w.place ≡ k = one_place t once there.0 n (ap (λ (l : Literal). l.switch) w.is) in
                     let high = there.1 in
-                    inr (i, omega arith, marked_reaches ((all i x at).0 e), record { from = x; at = at; to = y; earlier = omega arith; there = n; mentions = w.mentions })
+                    inr (i, omega arith, marked_reaches ((all i x at).0 e), record { from = x; at = at; to = y; earlier = omega arith; there = n; rule = rule; by = z; mentions = w.mentions })
 
                 back : Marked rules t p m k → stands marked' y.literal ≡ true
                 back (inl q) = (marks y.literal).1 (inl ((all k y n).1 (inl q)))
@@ -149,8 +150,67 @@ module _ (rules : List Meaning) (t : List Step) where
                     let to : l.to ≡ y = numbered_one l.there n in
                     let low = l.earlier in
                     let near : k ≤ m = omega arith in
-                    let says : Mentions rules x.rule y.literal.switch
-                    = subst (λ (w : Step). Mentions rules x.rule w.literal.switch) to (subst (λ (w : Step). Mentions rules w.rule l.to.literal.switch) from l.mentions) in
+                    let same : l.rule ≡ rule = same_Some l.rule rule (sym l.by ∙ ap (λ (w : Step). w.rule) from ∙ z) in
+                    let says : Mentions rules rule y.literal.switch
+                    = subst (λ (w : Step). Mentions rules rule w.literal.switch) to (subst (λ (r : ℕ). Mentions rules r l.to.literal.switch) same l.mentions) in
                     (marks y.literal).1 (inr (record { place = k; step = y; at = numbered_take m n near; is = refl; mentions = says })))
                     (λ lt'. (marks y.literal).1 (inl ((all k y n).1 (inr (q, lt', r, l)))))
                     (split q lt)
+
+-- ---- what is left of the trail
+
+module _ {rules : List Meaning} {t : List Step} {p : ℕ} (once : distinct (literals_on t) ≡ true) where
+  -- at the start the place asked about is the last that is left
+  pub sought_first : {i : ℕ} {x : Step} {marked chosen : Setting} → p ≡ i + 1 → i < length t → x ≡ get_or t i x → marked ≡ plus nothing x.literal → chosen ≡ nothing
+      → Sought rules t p (take p t) marked chosen
+  sought_first {i} {x} {marked} {chosen} e lt is m c =
+      let long : length (take p t) ≡ p = length-take-le p t (omega arith) in
+      let at : Numbered t p x = subst (λ (y : Step). Numbered t p y) (sym is) (subst (λ (k : ℕ). Numbered t k (get_or t i x)) (sym e) (at_numbered t i x lt)) in
+      record {
+        front = ap (λ (k : ℕ). take k t) long;
+        within = omega (arith, long);
+        all = subst (λ (k : ℕ). AllMarked rules t p k marked) (sym long) (subst (AllMarked rules t p p) (sym m) (starts rules t once p x at));
+        some = subst (λ (k : ℕ). Collected rules t p k chosen) (sym long) (subst (Collected rules t p p) (sym c) (none_yet rules t once p));
+      }
+
+  module _ {left : List Step} {x : Step} {marked chosen : Setting} (there : 1 ≤ length left) (is : x ≡ get_or left (length left - 1) x) (s : Sought rules t p left marked chosen) where
+    abbrev m : ℕ
+    m = length left - 1
+
+    next : length left ≡ m + 1
+    next = omega arith
+
+    long : length (take m left) ≡ m
+    long = length-take-le m left (omega arith)
+
+    earlier : take m left ≡ take m t
+    earlier = ap (take m) (sym s.front) ∙ take-take m (length left) t (omega arith)
+
+    at : Numbered t (length left) x
+    at =
+        let here : Numbered left (length left) x
+        = subst (λ (y : Step). Numbered left (length left) y) (sym is) (subst (λ (k : ℕ). Numbered left k (get_or left m x)) (sym next) (at_numbered left m x (omega arith))) in
+        (taken (length left) t (subst (λ (u : List Step). Numbered u (length left) x) (sym s.front) here)).0
+
+    sought : {marked' chosen' : Setting} → AllMarked rules t p m marked' × Collected rules t p m chosen' → Sought rules t p (take m left) marked' chosen'
+    sought {marked'} {chosen'} both =
+        record {
+          front = ap (λ (k : ℕ). take k t) long ∙ sym earlier;
+          within = let w = s.within in omega (arith, long);
+          all = subst (λ (k : ℕ). AllMarked rules t p k marked') (sym long) both.0;
+          some = subst (λ (k : ℕ). Collected rules t p k chosen') (sym long) both.1;
+        }
+
+    pub sought_past : stands marked x.literal ≡ false → Sought rules t p (take m left) marked chosen
+    sought_past e = sought (unmarked rules t once p m (length left) x next at marked chosen s.all s.some e)
+
+    pub sought_chosen : {chosen' : Setting} → chosen' ≡ plus chosen x.literal → stands marked x.literal ≡ true → x.rule ≡ None → Sought rules t p (take m left) marked chosen'
+    sought_chosen {chosen'} c e z =
+        subst (Sought rules t p (take m left) marked) (sym c) (sought (at_chosen rules t once p m (length left) x next at marked chosen s.all s.some e z))
+
+    pub sought_locked : {marked' : Setting} {rule : ℕ} → marked' ≡ marked_by rules rule (take m left) marked → stands marked x.literal ≡ true → x.rule ≡ Some rule
+        → Sought rules t p (take m left) marked' chosen
+    sought_locked {marked'} {rule} c e z =
+        let marks : Marks rules (take m t) rule marked marked'
+        = subst (λ (u : List Step). Marks rules u rule marked marked') earlier (subst (Marks rules (take m left) rule marked) (sym c) (marks_all rules rule (take m left) marked)) in
+        sought (at_locked rules t once p m (length left) x next at marked chosen s.all s.some rule marked' e z marks)

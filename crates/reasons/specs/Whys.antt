@@ -1,27 +1,25 @@
 -- The steps of the search for the reasons of a literal.
---   Mentions    there is such a rule, and it mentions a switch
---   PlaceOf     where a switch stands on a trail
---   Marks       what is marked, when a rule has marked what it mentions
---   Marked      what is marked, when the places down to m have been looked at
---   Collected   the chosen literals reached so far
-use Rattle.std.specs.Prelude.{◌≡◌, ℕ, ◌+◌, ◌<◌, true, false, ◌⊎◌, List, Some, None, Decides, Option}
+--   Mentions       there is such a rule, and it mentions a switch
+--   mentioned_by   the same as a test
+--   marked_by      what is marked, when a rule has marked what it mentions
+--   Marks          the same, literal by literal
+--   Marked         what is marked, when the places down to m have been looked at
+--   Collected      the chosen literals reached so far
+--   Sought         how far the search has come
+use Rattle.std.specs.Prelude.{◌≡◌, ℕ, ◌≤◌, length, take, fold, filter, Bool, not, ◌&&◌, ◌-◌, get_or, ◌<◌, true, ◌⊎◌, List, None, Decides}
 use Rattle.literals.specs.declared.literal.Literal.{Literal}
 use Rattle.literals.specs.declared.setting.Setting.{Setting}
-use Rattle.literals.specs.Settings.{stands}
-use Rattle.lists.specs.Lists.{mentioned}
+use Rattle.literals.specs.Settings.{stands, plus}
 use Rattle.rules.specs.Scans.{Numbered}
-use Rattle.shelf.specs.Meanings.{Meaning, OfRule}
+use Rattle.shelf.specs.Meanings.{Meaning, OfRule, no_rule, shut}
 use Rattle.runs.specs.declared.step.Step.{Step}
-use Rattle.runs.specs.Views.{literals_on}
 use Rattle.runs.specs.Reasons.{Leads, Reaches}
 
 abbrev pub Mentions : List Meaning → ℕ → ℕ → Type 0
 Mentions rules rule n = OfRule rules rule (λ m. m.mentions n ≡ true)
 
--- places are counted from 0 here
-abbrev pub PlaceOf : List Step → ℕ → Option ℕ → Type 0
-PlaceOf t n None = mentioned (literals_on t) n ≡ false
-PlaceOf t n (Some i) = (x : Step) × Numbered t (i + 1) x × (x.literal.switch ≡ n)
+abbrev pub mentioned_by : List Meaning → ℕ → ℕ → Bool
+mentioned_by rules rule n = not (no_rule rules rule) && (get_or rules (rule - 1) (shut 0)).mentions n
 
 -- l is a literal of the trail that the rule mentions
 pub record Named (rules : List Meaning) (t : List Step) (rule : ℕ) (l : Literal) : Type 0 where
@@ -30,6 +28,10 @@ pub record Named (rules : List Meaning) (t : List Step) (rule : ℕ) (l : Litera
   pub at : Numbered t place step
   pub is : step.literal ≡ l
   pub mentions : Mentions rules rule l.switch
+
+-- the marked literals, and those of these steps that the rule mentions
+abbrev pub marked_by : List Meaning → ℕ → List Step → Setting → Setting
+marked_by rules rule t s = fold (λ r x. plus r x.literal) s (filter (λ x. mentioned_by rules rule x.literal.switch) t)
 
 abbrev pub Marks : List Meaning → List Step → ℕ → Setting → Setting → Type 0
 Marks rules t rule s r = (l : Literal) → Decides (stands r l) ((stands s l ≡ true) ⊎ Named rules t rule l)
@@ -48,8 +50,15 @@ pub record Chosen (rules : List Meaning) (t : List Step) (p m : ℕ) (l : Litera
   pub at : Numbered t place step
   pub behind : m < place
   pub is : step.literal ≡ l
-  pub chosen : step.rule ≡ 0
+  pub chosen : step.rule ≡ None
   pub reached : Reaches rules t p place
 
 abbrev pub Collected : List Meaning → List Step → ℕ → ℕ → Setting → Type 0
 Collected rules t p m s = (l : Literal) → Decides (stands s l) (Chosen rules t p m l)
+
+-- the first places are left, and those behind them have been looked at
+pub record Sought (rules : List Meaning) (t : List Step) (p : ℕ) (left : List Step) (marked chosen : Setting) : Type 0 where
+  pub front : take (length left) t ≡ left
+  pub within : length left ≤ p
+  pub all : AllMarked rules t p (length left) marked
+  pub some : Collected rules t p (length left) chosen

@@ -1,101 +1,96 @@
 #![tactic(auto)]
 
 // Why a switch stands: the rule that locked it, and the chosen switches that it is reached from.
-ghost use Rattle.std.specs.Prelude.{◌≡◌, ◌+◌, ◌<◌, true, length, IfOk, Decides};
+ghost use Rattle.std.specs.Prelude.{◌≡◌, ◌==◌, ◌+◌, ◌<◌, position, true, length, IfOk};
 ghost use Rattle.literals.specs.Refusals.{first_failed, refusal_of};
 ghost use Rattle.lists.specs.Lists.{distinct};
-ghost use Rattle.reasons.specs.Whys.{Collected, Marks, Mentions, PlaceOf};
+ghost use Rattle.reasons.specs.Whys.{Collected, marked_by, mentioned_by};
 ghost use Rattle.runs.specs.Reasons.{Explains, why_checks};
 ghost use Rattle.runs.specs.Runs.{Traced};
 ghost use Rattle.runs.specs.Views.{literals_on};
 
 use literals::{Literal, Refusal, Setting};
-use runs::{Step, laws_over_runs};
+use runs::Step;
 use shelf::Shelf;
 
-// The rule that locked a switch, or 0 where it was chosen, and the chosen switches that it is reached from, as a word in which
+// The rule that locked a switch, none where it was chosen, and the chosen switches that it is reached from, as a word in which
 // switch n is bit n - 1.
-#[derive(Clone, Copy)]
+#[derive(Clone, Copy, Debug, PartialEq, Eq, Hash)]
 pub struct Why {
-    pub rule: usize,
+    pub rule: Option<usize>,
     pub word: u64,
 }
 
-// The place of a switch on the trail, from 0.
-fn place_of(steps: &[Step], switch: u32) -> Option<usize>
-    ensures { PlaceOf steps.now switch result }
-{
-    for (i, step) in steps.iter().enumerate() {
-        if u32::from(step.literal.switch()) == switch {
-            return Some(i);
-        }
-    }
-    None
+// The steps of a session's trail, with the shelf whose rules locked them.
+#[derive(Drop)]
+struct Trail<'a, S> {
+    shelf: &'a S,
+    steps: &'a [Step],
+    ghost once: { distinct (literals_on steps.now) ≡ true },
 }
 
-// There is such a rule, and it mentions the literal's switch.
-fn mentions<S: Shelf>(shelf: &S, rule: usize, literal: Literal) -> bool
-    requires sound { S.Shelf.sound shelf.now }
-    ensures { Decides result (Mentions (S.Shelf.rules shelf.now) rule literal.switch) }
-{
-    match shelf.mentions(rule, literal.switch()) {
-        Ok(says) => says,
-        Err(_) => false,
+impl<'a, S: Shelf> Trail<'a, S> {
+    // The place of a switch, from 0.
+    fn place_of(&self, switch: u32) -> Option<usize>
+        ensures { result ≡ position (λ x. x.literal.switch == switch) self.now.steps.now }
+    {
+        self.steps
+            .iter()
+            .position(|step| u32::from(step.literal.switch()) == switch)
     }
-}
 
-// The marked literals, and those of these steps that the rule mentions.
-fn mark<S: Shelf>(shelf: &S, rule: usize, steps: &[Step], mut marked: Setting) -> Setting
-    requires sound { S.Shelf.sound shelf.now }
-    ensures { Marks (S.Shelf.rules shelf.now) steps.now rule marked result }
-{
-    for step in steps {
-        if mentions(shelf, rule, step.literal) {
-            marked = marked.with(step.literal);
-        }
+    // There is such a rule, and it mentions the literal's switch.
+    fn mentions(&self, rule: usize, literal: Literal) -> bool
+        ensures { result ≡ mentioned_by (S.Shelf.rules self.now.shelf.now) rule literal.switch }
+    {
+        self.shelf.mentions(rule, literal.switch()).unwrap_or(false)
     }
-    marked
-}
 
-// The chosen literals that a place reaches: down the trail from it, a marked literal that a rule locked marks the earlier ones
-// that the rule mentions.
-fn reached<S: Shelf>(shelf: &S, steps: &[Step], place: usize) -> Setting
-    requires sound { S.Shelf.sound shelf.now }
-    requires once { distinct (literals_on steps.now) ≡ true }
-    requires place { place < length steps.now }
-    ensures { Collected (S.Shelf.rules shelf.now) steps.now (place + 1) 0 result }
-{
-    let mut marked = Setting::new().with(steps[place].literal);
-    let mut chosen = Setting::new();
-    for i in (0..place + 1).rev() {
-        let step = steps[i];
-        if marked.stands(step.literal) {
-            if step.rule == 0 {
-                chosen = chosen.with(step.literal);
-            } else {
-                marked = mark(shelf, step.rule, &steps[0..i], marked);
+    // The marked literals, and those of these steps that the rule mentions.
+    fn mark(&self, rule: usize, steps: &[Step], marked: Setting) -> Setting
+        ensures { result ≡ marked_by (S.Shelf.rules self.now.shelf.now) rule steps.now marked }
+    {
+        steps
+            .iter()
+            .filter(|step| self.mentions(rule, step.literal))
+            .fold(marked, |set, step| set.with(step.literal))
+    }
+
+    // The chosen literals that a place reaches: down the trail from it, a marked literal that a rule locked marks the earlier
+    // ones that the rule mentions.
+    fn reached(&self, place: usize) -> Setting
+        requires { place < length self.now.steps.now }
+        ensures { Collected (S.Shelf.rules self.now.shelf.now) self.now.steps.now (place + 1) 0 result }
+    {
+        let mut marked = Setting::new().with(self.steps[place].literal);
+        let mut chosen = Setting::new();
+        let mut left = &self.steps[..=place];
+        while let [earlier @ .., step] = left {
+            if marked.stands(step.literal) {
+                match step.rule {
+                    None => chosen = chosen.with(step.literal),
+                    Some(rule) => marked = self.mark(rule, earlier, marked),
+                }
             }
+            left = earlier;
         }
+        chosen
     }
-    chosen
 }
 
 // Why a switch stands on the trail of a session over this shelf. Refused by 1, or by 29 where it is free.
 pub fn explain<S: Shelf>(shelf: &S, steps: &[Step], switch: u32) -> Result<Why, Refusal>
-    requires sound { S.Shelf.sound shelf.now }
-    requires trail { Traced (S.Shelf.rules shelf.now) steps.now }
+    requires trail { ∥ Traced (S.Shelf.rules shelf.now) steps.now ∥₁ }
     ensures refused { refusal_of result ≡ first_failed (why_checks steps.now switch) }
     ensures explains { IfOk result (λ w. Explains (S.Shelf.rules shelf.now) steps.now switch w.rule w.word) }
 {
     if switch < 1 || switch > 64 {
         return Err(Refusal::OutOfRange);
     }
-    shelf.laws();
-    match place_of(steps, switch) {
-        None => Err(Refusal::SwitchFree),
-        Some(place) => Ok(Why {
-            rule: steps[place].rule,
-            word: reached(shelf, steps, place).switches(),
-        }),
-    }
+    let trail = Trail { shelf, steps };
+    let place = trail.place_of(switch).ok_or(Refusal::SwitchFree)?;
+    Ok(Why {
+        rule: steps[place].rule,
+        word: trail.reached(place).switches(),
+    })
 }

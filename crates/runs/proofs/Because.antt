@@ -1,5 +1,5 @@
 -- A literal of the trail stands in every unbroken set that forces nothing and holds the chosen literals that its place reaches.
-use Rattle.std.proofs.Common.{◌≡◌, ℕ, suc, ◌+◌, ◌<◌, Bool, true, false, cond, List, [], ◌∷◌, ◌++◌, length, sym, refl, ap, ◌∙◌, subst, ⊎_elim, arith}
+use Rattle.std.proofs.Common.{◌≡◌, ℕ, suc, ◌+◌, ◌<◌, Bool, true, false, cond, List, [], ◌∷◌, ◌++◌, length, Some, None, sym, refl, ap, ◌∙◌, subst, ⊎_elim, arith}
 use Rattle.literals.specs.declared.literal.Literal.{Literal}
 use Rattle.literals.specs.declared.setting.Setting.{Setting}
 use Rattle.literals.specs.Literals.{opposite}
@@ -92,7 +92,7 @@ module _ (rules : List Meaning) (lawful : Every rules Lawful) (s : Setting) (mee
 
   -- the place holds where what it reaches on the whole trail t holds
   abbrev StandsBy : List Step → ℕ → Step → Type 0
-  StandsBy t i x = ((j : ℕ) (y : Step) → Numbered t j y → Reaches rules t i j → y.rule ≡ 0 → stands s y.literal ≡ true) → stands s x.literal ≡ true
+  StandsBy t i x = ((j : ℕ) (y : Step) → Numbered t j y → Reaches rules t i j → y.rule ≡ None → stands s y.literal ≡ true) → stands s x.literal ≡ true
 
   follows : (t : List Step) (i j k : ℕ) → Leads rules t i j → Reaches rules t j k → Reaches rules t i k
   follows t i j k e itself = on itself e
@@ -126,15 +126,14 @@ module _ (rules : List Meaning) (lawful : Every rules Lawful) (s : Setting) (mee
         subst (λ (w : Step). stands s w.literal ≡ true) (sym l.0)
         (forced t r a.rule y.literal a.numbered a.here.forced
         (λ j w m says. holds back (shorter t y front) j w m
-        (λ k v o reach chosen. reasons k v o (follows whole i j k (leads i x (front i x n) j w (front j w (numbered_left (y ∷ []) m)) (before t i j w l.1 m) a.rule
-        (subst (λ (b : ℕ). Numbered rules b a.rule) (sym rule) a.numbered) says) reach) chosen))))
+        (λ k v o reach chosen. reasons k v o (follows whole i j k (leads i x (front i x n) j w (front j w (numbered_left (y ∷ []) m)) (before t i j w l.1 m) r rule a.rule a.numbered says) reach) chosen))))
         (append_numbered t (y ∷ []) n)
       where
         before : (t : List Step) (i j : ℕ) (w : Step) → length t < i → Numbered t j w → j < i
         before t i j w h m = let high = numbered_high m in omega arith
 
-        leads : (i : ℕ) (x : Step) → Numbered whole i x → (j : ℕ) (w : Step) → Numbered whole j w → j < i → (m : Meaning) → Numbered rules x.rule m → m.mentions w.literal.switch ≡ true → Leads rules whole i j
-        leads i x n j w k lt m at says = record { from = x; at = n; to = w; earlier = lt; there = k; mentions = record { rule = m; numbered = at; is = says } }
+        leads : (i : ℕ) (x : Step) → Numbered whole i x → (j : ℕ) (w : Step) → Numbered whole j w → j < i → (r : ℕ) → x.rule ≡ Some r → (m : Meaning) → Numbered rules r m → m.mentions w.literal.switch ≡ true → Leads rules whole i j
+        leads i x n j w k lt r by m at says = record { from = x; at = n; to = w; earlier = lt; there = k; rule = r; by = by; mentions = record { rule = m; numbered = at; is = says } }
 
 pub because : (rules : List Meaning) → Every rules Lawful → {c : List Literal} {t : List Step} → Trail rules c t → Because rules t
 because rules lawful {t = t} tr i x n s meets still reasons = holds rules lawful s meets still t tr (λ j y k. k) i x n reasons

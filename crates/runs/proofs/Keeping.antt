@@ -1,8 +1,7 @@
 -- What every list of calls keeps of a session.
-use Rattle.std.proofs.Common.{◌≡◌, ℕ, ◌+◌, ◌<◌, Bool, true, false, cond, not, eqb, ◌⊎◌, List, [], ◌∷◌, ◌++◌, length, take, ℤ, None, sym, refl, ap, ◌∙◌, subst, ap₂, inl, inr, ⊎_elim, arith}
+use Rattle.std.proofs.Common.{◌≡◌, ℕ, ◌+◌, ◌<◌, Bool, true, false, cond, not, ◌⊎◌, List, [], ◌∷◌, ◌++◌, length, take, ℤ, None, Ok, is_none, sym, refl, ap, ◌∙◌, subst, ap₂, inl, inr, ⊎_elim, arith}
 use Rattle.std.proofs.lemmas.List.{append-nil, map_push, length_push, length-take-le, take-map}
 use Rattle.std.proofs.lemmas.Bool.{leb-false, and_from}
-use Rattle.std.proofs.lemmas.Bool.Decides.{nat_tests}
 use Rattle.literals.specs.declared.literal.Literal.{Literal}
 use Rattle.literals.specs.Literals.{number, opposite}
 use Rattle.literals.specs.Refusals.{first_failed}
@@ -12,17 +11,16 @@ use Rattle.literals.proofs.Refused.{passed}
 use Rattle.literals.proofs.Standing.{number-stands}
 use Rattle.rules.specs.declared.Verdict.{Verdict}
 use Rattle.rules.specs.declared.Verdict.TheVariants.{Quiet, Broken, Forced}
-use Rattle.rules.proofs.Numbers.{numbered_low}
 use Rattle.shelf.specs.Meanings.{Meaning, Answers}
 use Rattle.runs.specs.declared.step.Step.{Step}
 use Rattle.runs.specs.declared.calls.State.{State}
 use Rattle.runs.specs.declared.calls.State.TheVariants.{Unsettled, Settled, Clashed, Shut}
+use Rattle.runs.specs.declared.calls.Clash.{Clash}
 use Rattle.runs.specs.declared.calls.Call.{Call}
 use Rattle.runs.specs.declared.calls.Call.TheVariants.{Settle, Choose, Back, BackFromClash, Close}
-use Rattle.runs.specs.declared.calls.Answer.{Answer}
-use Rattle.runs.specs.declared.calls.Answer.TheVariants.{Done}
+use Rattle.runs.specs.declared.calls.Reply.TheVariants.{Done}
 use Rattle.runs.specs.Views.{View, opened, standing, step}
-use Rattle.runs.specs.Calls.{checks, is_shut, is_clashed, is_unsettled, state_by, Said, SettledBy, Chose, WentBack, Closed, Did, Does, refused, done}
+use Rattle.runs.specs.Calls.{Answered, checks, is_shut, is_clashed, is_unsettled, state_by, Said, SettledBy, Chose, WentBack, Closed, Did, Does, refused, done}
 use Rattle.runs.specs.Runs.{Event, event, Run, none, then, chosen_after, chosen_from, chosen_by}
 use Rattle.runs.specs.Laws.{chosen_in}
 use Rattle.runs.proofs.Verdicts.{true_false}
@@ -76,13 +74,13 @@ choosable v l p =
 pub below_back : (v : View) (k : ℕ) → None ≡ first_failed (checks v (Back k)) → k < v.level
 below_back v k p = leb-false v.level k (passed (checks v (Back k)) p).1.1.1.0
 
-pub below_clash : (v : View) (rule level k : ℕ) → None ≡ first_failed (checks v (BackFromClash rule level k)) → k < v.level
-below_clash v rule level k p = leb-false v.level k (passed (checks v (BackFromClash rule level k)) p).1.1.1.0
+pub below_clash : (v : View) (x : Clash) (k : ℕ) → None ≡ first_failed (checks v (BackFromClash x k)) → k < v.level
+below_clash v x k p = leb-false v.level k (passed (checks v (BackFromClash x k)) p).1.1.1.0
 
 -- ---- one call
 
 module _ (rules : List Meaning) where
-  back_keeps : (c : List ℤ) (v w : View) (k : ℕ) (a : Answer) → Kept rules c v → k < v.level → WentBack v k a w → Kept rules (take k c) w
+  back_keeps : (c : List ℤ) (v w : View) (k : ℕ) (a : Answered) → Kept rules c v → k < v.level → WentBack v k a w → Kept rules (take k c) w
   back_keeps c v w k a i below b =
       let less : k < length i.chosen = omega (arith, i.level) in
       let l = back_to rules k i.trail less in
@@ -97,7 +95,7 @@ module _ (rules : List Meaning) where
         broken = λ r e. settled_not_clashed Settled r refl e;
       })
 
-  settle_keeps : (c : List ℤ) (v w : View) (a : Answer) → Kept rules c v → (s : SettledBy rules v a w) → Kept rules c w
+  settle_keeps : (c : List ℤ) (v w : View) (a : Answered) → Kept rules c v → (s : SettledBy rules v a w) → Kept rules c w
   settle_keeps c v w a i s = by s.verdict (settle_trail rules v.level i.level s.settles i.trail).answer s.state s.said
     where
       made : (q : w.state ≡ Settled → Answers rules (standing w.trail) Quiet) (b : (r : ℕ) → w.state ≡ Clashed r → Answers rules (standing w.trail) (Broken r)) → Kept rules c w
@@ -117,7 +115,7 @@ module _ (rules : List Meaning) where
           made (λ f. settled_not_clashed w.state q f e) (λ r f. subst (λ (p : ℕ). Answers rules (standing w.trail) (Broken p)) (clashed_rule w.state q r e f) h)
       by (Forced r l) h e said = absurd said
 
-  choose_keeps : (c : List ℤ) (v w : View) (n : ℤ) (a : Answer) → Kept rules c v → None ≡ first_failed (checks v (Choose n)) → Chose v n a w → Kept rules (c ++ n ∷ []) w
+  choose_keeps : (c : List ℤ) (v w : View) (n : ℤ) (a : Answered) → Kept rules c v → None ≡ first_failed (checks v (Choose n)) → Chose v n a w → Kept rules (c ++ n ∷ []) w
   choose_keeps c v w n a i p q =
       let l = q.literal in
       let can = choosable v l (subst (λ (m : ℤ). None ≡ first_failed (checks v (Choose m))) (sym q.named) p) in
@@ -125,13 +123,13 @@ module _ (rules : List Meaning) where
       (record {
         chosen = i.chosen ++ l ∷ [];
         named = map_push number i.chosen l ∙ ap₂ (λ (ns : List ℤ) (m : ℤ). ns ++ m ∷ []) i.named q.named;
-        trail = chose (step l (v.level + 1) 0) i.trail (i.quiet can.from) can.free (ap (λ (m : ℕ). m + 1) i.level) refl;
+        trail = chose (step l (v.level + 1) None) i.trail (i.quiet can.from) can.free (ap (λ (m : ℕ). m + 1) i.level) refl;
         level = ap (λ (m : ℕ). m + 1) i.level ∙ sym (length_push i.chosen l);
         quiet = λ e. neither Unsettled (inl refl) e;
         broken = λ r e. nor Unsettled r (inl refl) e;
       })
 
-  close_keeps : (c : List ℤ) (v w : View) (a : Answer) → Kept rules c v → Closed v a w → Kept rules c w
+  close_keeps : (c : List ℤ) (v w : View) (a : Answered) → Kept rules c v → Closed v a w → Kept rules c w
   close_keeps c v w a i z =
       subst (λ (x : View). Kept rules c x) (sym z.view)
       (record {
@@ -144,25 +142,25 @@ module _ (rules : List Meaning) where
       })
 
   -- the chosen literals do not change where the answer is not that the call is done
-  settle_chosen : (c : List ℤ) (v w : View) (a : Answer) (d : Verdict) → Said rules v w d a → chosen_after c (event Settle a) ≡ c
-  settle_chosen c v w a Quiet said = ap (λ (x : Answer). chosen_after c (event Settle x)) said.2
-  settle_chosen c v w a (Broken r) said = ap (λ (x : Answer). chosen_after c (event Settle x)) said.is
+  settle_chosen : (c : List ℤ) (v w : View) (a : Answered) (d : Verdict) → Said rules v w d a → chosen_after c (event Settle a) ≡ c
+  settle_chosen c v w a Quiet said = ap (λ (x : Answered). chosen_after c (event Settle x)) said.2
+  settle_chosen c v w a (Broken r) said = ap (λ (x : Answered). chosen_after c (event Settle x)) said.is
   settle_chosen c v w a (Forced r l) said = absurd said
 
-  done_chosen : (c : List ℤ) (call : Call) (a : Answer) → a ≡ Done → chosen_after c (event call a) ≡ chosen_after c (event call Done)
-  done_chosen c call a e = ap (λ (x : Answer). chosen_after c (event call x)) e
+  done_chosen : (c : List ℤ) (call : Call) (a : Answered) → a ≡ Ok Done → chosen_after c (event call a) ≡ chosen_after c (event call (Ok Done))
+  done_chosen c call a e = ap (λ (x : Answered). chosen_after c (event call x)) e
 
-  did_keeps : (c : List ℤ) (v w : View) (call : Call) (a : Answer) → Kept rules c v → None ≡ first_failed (checks v call) → Did rules v call a w → Kept rules (chosen_after c (event call a)) w
+  did_keeps : (c : List ℤ) (v w : View) (call : Call) (a : Answered) → Kept rules c v → None ≡ first_failed (checks v call) → Did rules v call a w → Kept rules (chosen_after c (event call a)) w
   did_keeps c v w Settle a i p d = subst (λ (ns : List ℤ). Kept rules ns w) (sym (settle_chosen c v w a d.verdict d.said)) (settle_keeps c v w a i d)
   did_keeps c v w (Choose n) a i p d = subst (λ (ns : List ℤ). Kept rules ns w) (sym (done_chosen c (Choose n) a d.answer)) (choose_keeps c v w n a i p d)
   did_keeps c v w (Back k) a i p d = subst (λ (ns : List ℤ). Kept rules ns w) (sym (done_chosen c (Back k) a d.answer)) (back_keeps c v w k a i (below_back v k p) d)
-  did_keeps c v w (BackFromClash rule level k) a i p d =
-      subst (λ (ns : List ℤ). Kept rules ns w) (sym (done_chosen c (BackFromClash rule level k) a d.answer)) (back_keeps c v w k a i (below_clash v rule level k p) d)
-  did_keeps c v w (Close rule level) a i p d = subst (λ (ns : List ℤ). Kept rules ns w) (sym (done_chosen c (Close rule level) a d.answer)) (close_keeps c v w a i d)
+  did_keeps c v w (BackFromClash x k) a i p d =
+      subst (λ (ns : List ℤ). Kept rules ns w) (sym (done_chosen c (BackFromClash x k) a d.answer)) (back_keeps c v w k a i (below_clash v x k p) d)
+  did_keeps c v w (Close x) a i p d = subst (λ (ns : List ℤ). Kept rules ns w) (sym (done_chosen c (Close x) a d.answer)) (close_keeps c v w a i d)
 
-  does_keeps : (c : List ℤ) (v w : View) (call : Call) (a : Answer) → Kept rules c v → Does rules v call a w → Kept rules (chosen_after c (event call a)) w
+  does_keeps : (c : List ℤ) (v w : View) (call : Call) (a : Answered) → Kept rules c v → Does rules v call a w → Kept rules (chosen_after c (event call a)) w
   does_keeps c v w call a i (refused e p q r) =
-      subst (λ (ns : List ℤ). Kept rules ns w) (sym (ap (λ (x : Answer). chosen_after c (event call x)) q)) (subst (λ (u : View). Kept rules c u) (sym r) i)
+      subst (λ (ns : List ℤ). Kept rules ns w) (sym (ap (λ (x : Answered). chosen_after c (event call x)) q)) (subst (λ (u : View). Kept rules c u) (sym r) i)
   does_keeps c v w call a i (done p d) = did_keeps c v w call a i (sym p) d
 
   -- ---- lists of calls
@@ -188,7 +186,7 @@ module _ (rules : List Meaning) where
 
 chosen_append : (t : List Step) (x : Step) → chosen_in (t ++ x ∷ []) ≡ chosen_in t ++ chosen_in (x ∷ [])
 chosen_append [] x = refl
-chosen_append (y ∷ t) x = go (eqb y.rule 0) (chosen_append t x)
+chosen_append (y ∷ t) x = go (is_none y.rule) (chosen_append t x)
   where
     go : (b : Bool) → chosen_in (t ++ x ∷ []) ≡ chosen_in t ++ chosen_in (x ∷ [])
         → cond b (number y.literal ∷ chosen_in (t ++ x ∷ [])) (chosen_in (t ++ x ∷ [])) ≡ cond b (number y.literal ∷ chosen_in t) (chosen_in t) ++ chosen_in (x ∷ [])
@@ -198,9 +196,8 @@ chosen_append (y ∷ t) x = go (eqb y.rule 0) (chosen_append t x)
 pub chosen_told : (rules : List Meaning) {c : List Literal} {t : List Step} → Trail rules c t → chosen_in t ≡ numbers c
 chosen_told rules empty = refl
 chosen_told rules (chose {c = c} {t = t} x back q f e z) =
-    let b : eqb x.rule 0 ≡ true = grind (arith, nat_tests) in
+    let b : is_none x.rule ≡ true = ap is_none z in
     chosen_append t x ∙ ap₂ (λ (u : List ℤ) (v : Bool). u ++ cond v (number x.literal ∷ []) []) (chosen_told rules back) b ∙ sym (map_push number c x.literal)
 chosen_told rules (locked {c = c} {t = t} x back r a e z) =
-    let one = numbered_low a.numbered in
-    let b : eqb x.rule 0 ≡ false = grind (arith, nat_tests) in
+    let b : is_none x.rule ≡ false = ap is_none z in
     chosen_append t x ∙ ap₂ (λ (u : List ℤ) (v : Bool). u ++ cond v (number x.literal ∷ []) []) (chosen_told rules back) b ∙ append-nil (numbers c)

@@ -1,5 +1,5 @@
 -- For every view and call there is exactly one answer and one outcome.
-use Rattle.std.proofs.Common.{◌≡◌, ℕ, zero, suc, ◌+◌, ◌≤◌, true, false, List, [], ◌∷◌, ◌++◌, length, ℤ, pos, negsuc, neg_ℤ, Some, None, Option, sym, refl, ap, ◌∙◌, subst, arith}
+use Rattle.std.proofs.Common.{◌≡◌, ℕ, zero, suc, ◌+◌, ◌≤◌, true, false, List, [], ◌∷◌, ◌++◌, length, ℤ, pos, negsuc, neg_ℤ, Some, None, Ok, Err, Option, sym, refl, ap, ◌∙◌, subst, arith}
 use Rattle.std.proofs.lemmas.List.{length_push}
 use Rattle.std.proofs.lemmas.Bool.{or_parts, ltb-false}
 use Rattle.literals.specs.declared.literal.Literal.{Literal}
@@ -20,10 +20,9 @@ use Rattle.runs.specs.declared.calls.State.{State}
 use Rattle.runs.specs.declared.calls.State.TheVariants.{Unsettled}
 use Rattle.runs.specs.declared.calls.Call.{Call}
 use Rattle.runs.specs.declared.calls.Call.TheVariants.{Settle, Choose, Back, BackFromClash, Close}
-use Rattle.runs.specs.declared.calls.Answer.{Answer}
-use Rattle.runs.specs.declared.calls.Answer.TheVariants.{Done, Grown, Clash, Refused}
+use Rattle.runs.specs.declared.calls.Reply.TheVariants as reply
 use Rattle.runs.specs.Views.{View, standing, step}
-use Rattle.runs.specs.Calls.{checks, Settles, quiet, broken, locks, state_by, Said, SettledBy, Chose, Did, Does, refused, done}
+use Rattle.runs.specs.Calls.{Answered, clash, checks, Settles, quiet, broken, locks, state_by, Said, SettledBy, Chose, Did, Does, refused, done}
 use Rattle.runs.specs.Laws.{One}
 use Rattle.runs.proofs.Verdicts.{answers_one, answers_some}
 use Rattle.runs.proofs.Trails.{standing-push}
@@ -48,7 +47,7 @@ module _ (rules : List Meaning) (level : ℕ) where
   settles_one (locks {t = t} {r = r} {l = l} a s) (broken {r = q} b) = (not_forced r l (Broken q) (answers_one rules (standing t) _ _ b a)).1 q refl
   settles_one (locks {t = t} {r = r} {l = l} a s) (locks {u = u} {v = v} {r = q} {l = k} b s') =
       let e = forced_parts q r k l (answers_one rules (standing t) _ _ b a) in
-      settles_one s (subst (λ (m : Literal). Settles rules level (t ++ step m level r ∷ []) u v) e.1 (subst (λ (n : ℕ). Settles rules level (t ++ step k level n ∷ []) u v) e.0 s'))
+      settles_one s (subst (λ (m : Literal). Settles rules level (t ++ step m level (Some r) ∷ []) u v) e.1 (subst (λ (n : ℕ). Settles rules level (t ++ step k level (Some n) ∷ []) u v) e.0 s'))
 
   pub settles_answer : {t u : List Step} {v : Verdict} → Settles rules level t u v → Answers rules (standing u) v
   settles_answer (quiet a) = a
@@ -62,22 +61,22 @@ module _ (rules : List Meaning) (level : ℕ) where
     pub longer : (n : ℕ) × (length t + n ≡ length trail)
     pub final : (r : ℕ) (l : Literal) → verdict ≡ Forced r l → ⊥
 
-  turn : (t : List Step) → ((r : ℕ) (l : Literal) → Answers rules (standing t) (Forced r l) → Ends (t ++ step l level r ∷ [])) → (v : Verdict) → Answers rules (standing t) v → Ends t
+  turn : (t : List Step) → ((r : ℕ) (l : Literal) → Answers rules (standing t) (Forced r l) → Ends (t ++ step l level (Some r) ∷ [])) → (v : Verdict) → Answers rules (standing t) v → Ends t
   turn t next Quiet a = record { trail = t; verdict = Quiet; settles = quiet a; longer = (0, omega arith); final = λ r l e. let z : ◌≡◌ {A = ℕ} 0 1 = cc in omega arith }
   turn t next (Broken q) a = record { trail = t; verdict = Broken q; settles = broken a; longer = (0, omega arith); final = λ r l e. let z : ◌≡◌ {A = ℕ} 0 1 = cc in omega arith }
   turn t next (Forced r l) a =
       let rest = next r l a in
-      let n = length_push t (step l level r) in
+      let n = length_push t (step l level (Some r)) in
       let k = rest.longer.1 in
       record { trail = rest.trail; verdict = rest.verdict; settles = locks a rest.settles; longer = (rest.longer.0 + 1, omega (arith, k, n)); final = rest.final }
 
-  fewer_free : (t : List Step) (r : ℕ) (l : Literal) → Answers rules (standing t) (Forced r l) → free_count (standing (t ++ step l level r ∷ [])) + 1 ≡ free_count (standing t)
-  fewer_free t r l a = ap (λ (s : Setting). free_count s + 1) (standing-push t (step l level r)) ∙ free_count-plus (standing t) l a.here.forced.free
+  fewer_free : (t : List Step) (r : ℕ) (l : Literal) → Answers rules (standing t) (Forced r l) → free_count (standing (t ++ step l level (Some r) ∷ [])) + 1 ≡ free_count (standing t)
+  fewer_free t r l a = ap (λ (s : Setting). free_count s + 1) (standing-push t (step l level (Some r))) ∙ free_count-plus (standing t) l a.here.forced.free
 
   -- each literal locked takes one free switch, so settling ends
   ends : (n : ℕ) (t : List Step) → free_count (standing t) ≤ n → Ends t
   ends zero t h = turn t (λ r l a. let f = fewer_free t r l a in absurd (omega arith)) (answers_some rules (standing t)).0 (answers_some rules (standing t)).1
-  ends (suc n) t h = turn t (λ r l a. let f = fewer_free t r l a in ends n (t ++ step l level r ∷ []) (omega arith)) (answers_some rules (standing t)).0 (answers_some rules (standing t)).1
+  ends (suc n) t h = turn t (λ r l a. let f = fewer_free t r l a in ends n (t ++ step l level (Some r) ∷ []) (omega arith)) (answers_some rules (standing t)).0 (answers_some rules (standing t)).1
 
 -- ---- what is done is one thing
 
@@ -102,20 +101,20 @@ literal_there (negsuc k) h =
     (record { switch = k + 1; on = false; range = (low, high) }, ap (λ (j : ℕ). neg_ℤ (pos j)) e)
 
 module _ (rules : List Meaning) (v : View) where
-  abbrev Outcome : (Answer → View → Type 0) → Type 0
-  Outcome D = (a : Answer) × (w : View) × D a w
+  abbrev Outcome : (Answered → View → Type 0) → Type 0
+  Outcome D = (a : Answered) × (w : View) × D a w
 
-  abbrev Unique : (Answer → View → Type 0) → Type 0
-  Unique D = (a b : Answer) (w x : View) → D a w → D b x → (a ≡ b) × (w ≡ x)
+  abbrev Unique : (Answered → View → Type 0) → Type 0
+  Unique D = (a b : Answered) (w x : View) → D a w → D b x → (a ≡ b) × (w ≡ x)
 
   -- ---- settling
 
   abbrev after : Ends rules v.level v.trail → View
   after e = record { state = state_by e.verdict; level = v.level; trail = e.trail }
 
-  answered : (e : Ends rules v.level v.trail) → (d : Verdict) → e.verdict ≡ d → Settles rules v.level v.trail e.trail d → (a : Answer) × Said rules v (after e) d a
-  answered e Quiet q s = (Grown e.longer.0, (e.longer.0, e.longer.1, refl))
-  answered e (Broken r) q s = let b = settles_answer rules v.level s in (Clash r v.level b.rule.letter, record { rule = b.rule; numbered = b.numbered; is = refl })
+  answered : (e : Ends rules v.level v.trail) → (d : Verdict) → e.verdict ≡ d → Settles rules v.level v.trail e.trail d → (a : Answered) × Said rules v (after e) d a
+  answered e Quiet q s = (Ok (reply.Grown e.longer.0), (e.longer.0, e.longer.1, refl))
+  answered e (Broken r) q s = let b = settles_answer rules v.level s in (Ok (reply.Clash (clash r v.level) b.rule.letter), record { rule = b.rule; numbered = b.numbered; is = refl })
   answered e (Forced r l) q s = absurd (e.final r l q)
 
   some_settle : Outcome (SettledBy rules v)
@@ -127,9 +126,9 @@ module _ (rules : List Meaning) (v : View) where
   grown-same : (m n k j : ℕ) → k + m ≡ j → k + n ≡ j → m ≡ n
   grown-same m n k j p q = omega arith
 
-  said_one : (w x : View) (d : Verdict) (a b : Answer) → w.trail ≡ x.trail → Said rules v w d a → Said rules v x d b → a ≡ b
-  said_one w x Quiet a b e p q = p.2 ∙ ap Grown (grown-same p.0 q.0 (length v.trail) (length x.trail) (p.1 ∙ ap length e) q.1) ∙ sym q.2
-  said_one w x (Broken r) a b e p q = p.is ∙ ap (λ (m : Meaning). Clash r v.level m.letter) (numbered_one p.numbered q.numbered) ∙ sym q.is
+  said_one : (w x : View) (d : Verdict) (a b : Answered) → w.trail ≡ x.trail → Said rules v w d a → Said rules v x d b → a ≡ b
+  said_one w x Quiet a b e p q = p.2 ∙ ap (λ (n : ℕ). Ok (reply.Grown n)) (grown-same p.0 q.0 (length v.trail) (length x.trail) (p.1 ∙ ap length e) q.1) ∙ sym q.2
+  said_one w x (Broken r) a b e p q = p.is ∙ ap (λ (m : Meaning). Ok (reply.Clash (clash r v.level) m.letter)) (numbered_one p.numbered q.numbered) ∙ sym q.is
   said_one w x (Forced r l) a b e p q = absurd p
 
   one_settle : Unique (SettledBy rules v)
@@ -142,34 +141,34 @@ module _ (rules : List Meaning) (v : View) where
   -- ---- choosing
 
   some_choose : (n : ℤ) → no_literal n ≡ false → Outcome (Chose v n)
-  some_choose n h = let l = literal_there n h in (Done, _, record { literal = l.0; named = l.1; answer = refl; view = refl })
+  some_choose n h = let l = literal_there n h in (Ok reply.Done, _, record { literal = l.0; named = l.1; answer = refl; view = refl })
 
   one_choose : (n : ℤ) → Unique (Chose v n)
   one_choose n a b w x p q =
       let e = number_same p.literal q.literal (p.named ∙ sym q.named) in
-      (p.answer ∙ sym q.answer, p.view ∙ ap (λ (l : Literal). record { state = Unsettled; level = v.level + 1; trail = v.trail ++ step l (v.level + 1) 0 ∷ [] }) e ∙ sym q.view)
+      (p.answer ∙ sym q.answer, p.view ∙ ap (λ (l : Literal). record { state = Unsettled; level = v.level + 1; trail = v.trail ++ step l (v.level + 1) None ∷ [] }) e ∙ sym q.view)
 
   -- ---- every call
 
   some_did : (c : Call) → None ≡ first_failed (checks v c) → Outcome (Did rules v c)
   some_did Settle p = some_settle
   some_did (Choose n) p = some_choose n (passed (checks v (Choose n)) p).0
-  some_did (Back k) p = (Done, _, record { answer = refl; view = refl })
-  some_did (BackFromClash rule level k) p = (Done, _, record { answer = refl; view = refl })
-  some_did (Close rule level) p = (Done, _, record { answer = refl; view = refl })
+  some_did (Back k) p = (Ok reply.Done, _, record { answer = refl; view = refl })
+  some_did (BackFromClash x k) p = (Ok reply.Done, _, record { answer = refl; view = refl })
+  some_did (Close x) p = (Ok reply.Done, _, record { answer = refl; view = refl })
 
   one_did : (c : Call) → Unique (Did rules v c)
   one_did Settle a b w x p q = one_settle a b w x p q
   one_did (Choose n) a b w x p q = one_choose n a b w x p q
   one_did (Back k) a b w x p q = (p.answer ∙ sym q.answer, p.view ∙ sym q.view)
-  one_did (BackFromClash rule level k) a b w x p q = (p.answer ∙ sym q.answer, p.view ∙ sym q.view)
-  one_did (Close rule level) a b w x p q = (p.answer ∙ sym q.answer, p.view ∙ sym q.view)
+  one_did (BackFromClash y k) a b w x p q = (p.answer ∙ sym q.answer, p.view ∙ sym q.view)
+  one_did (Close y) a b w x p q = (p.answer ∙ sym q.answer, p.view ∙ sym q.view)
 
-  one_refused : (c : Call) (e : Refusal) → first_failed (checks v c) ≡ Some e → (a : Answer) (w : View) → Does rules v c a w → (a ≡ Refused e) × (w ≡ v)
-  one_refused c e p a w (refused d q r s) = let same : d ≡ e = cc in (r ∙ ap Refused same, s)
+  one_refused : (c : Call) (e : Refusal) → first_failed (checks v c) ≡ Some e → (a : Answered) (w : View) → Does rules v c a w → (a ≡ Err e) × (w ≡ v)
+  one_refused c e p a w (refused d q r s) = let same : d ≡ e = cc in (r ∙ ap Err same, s)
   one_refused c e p a w (done q d) = let z : ◌≡◌ {A = ℕ} 0 1 = cc in absurd (omega arith)
 
-  one_done : (c : Call) → first_failed (checks v c) ≡ None → (a b : Answer) (w x : View) → Did rules v c b x → Does rules v c a w → (a ≡ b) × (w ≡ x)
+  one_done : (c : Call) → first_failed (checks v c) ≡ None → (a b : Answered) (w x : View) → Did rules v c b x → Does rules v c a w → (a ≡ b) × (w ≡ x)
   one_done c p a b w x d (refused e q r s) = let z : ◌≡◌ {A = ℕ} 0 1 = cc in absurd (omega arith)
   one_done c p a b w x d (done q d') = one_did c a b w x d' d
 
@@ -177,7 +176,7 @@ module _ (rules : List Meaning) (v : View) where
   one c = by (first_failed (checks v c)) refl
     where
       by : (o : Option Refusal) → first_failed (checks v c) ≡ o → One rules v c
-      by (Some e) p = record { answer = Refused e; view = v; does = refused e p refl refl; only = one_refused c e p }
+      by (Some e) p = record { answer = Err e; view = v; does = refused e p refl refl; only = one_refused c e p }
       by None p =
           let d = some_did c (sym p) in
           record { answer = d.0; view = d.1; does = done p d.2; only = λ a w q. one_done c p a d.0 w d.1 d.2 q }

@@ -1,5 +1,5 @@
 -- The trails that choosing and settling make, with the literals chosen; and at the heart: every stable set contains them.
-use Rattle.std.proofs.Common.{◌≡◌, ℕ, ◌+◌, Bool, true, false, not, ◌⊎◌, List, [], ◌∷◌, ◌++◌, map, length, ℤ, sym, refl, ap, ◌∙◌, subst, inl, inr, ⊎_elim}
+use Rattle.std.proofs.Common.{◌≡◌, ℕ, ◌+◌, Bool, true, false, not, ◌⊎◌, List, [], ◌∷◌, ◌++◌, map, length, ℤ, Some, None, sym, refl, ap, ◌∙◌, subst, inl, inr, ⊎_elim}
 use Rattle.std.proofs.lemmas.List.{map_push, length-map}
 use Rattle.std.proofs.lemmas.Bool.{and_from}
 use Rattle.literals.specs.declared.literal.Literal.{Literal}
@@ -24,9 +24,9 @@ use Rattle.runs.proofs.Verdicts.{true_false}
 pub data Trail (rules : List Meaning) : List Literal → List Step → Type 0 where
   empty : Trail rules [] []
   chose : {c : List Literal} {t : List Step} (x : Step) → Trail rules c t → Answers rules (standing t) Quiet → free (standing t) x.literal ≡ true
-      → x.level ≡ length c + 1 → x.rule ≡ 0 → Trail rules (c ++ x.literal ∷ []) (t ++ x ∷ [])
+      → x.level ≡ length c + 1 → x.rule ≡ None → Trail rules (c ++ x.literal ∷ []) (t ++ x ∷ [])
   locked : {c : List Literal} {t : List Step} (x : Step) → Trail rules c t → (r : ℕ) → Answers rules (standing t) (Forced r x.literal)
-      → x.level ≡ length c → x.rule ≡ r → Trail rules c (t ++ x ∷ [])
+      → x.level ≡ length c → x.rule ≡ Some r → Trail rules c (t ++ x ∷ [])
 
 abbrev pub numbers : List Literal → List ℤ
 numbers c = map number c

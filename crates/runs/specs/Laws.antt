@@ -13,7 +13,7 @@
 --   Agree          what holds of two lists of calls with the same chosen literals
 --   One            a call has exactly one answer and one outcome
 --   Laws           all of it, for every list of calls from a new session on
-use Rattle.std.specs.Prelude.{◌≡◌, ℕ, ◌<◌, true, false, cond, not, List, [], ◌∷◌, length, ℤ, ◌==◌, ◌≢◌}
+use Rattle.std.specs.Prelude.{◌≡◌, ℕ, ◌<◌, true, false, cond, not, List, [], ◌∷◌, length, ℤ, is_none, ◌≢◌}
 use Rattle.literals.specs.declared.literal.Literal.{Literal}
 use Rattle.literals.specs.declared.setting.Setting.{Setting}
 use Rattle.literals.specs.Literals.{number, opposite}
@@ -24,9 +24,8 @@ use Rattle.shelf.specs.Meanings.{Meaning, Every, Lawful, Match}
 use Rattle.runs.specs.declared.step.Step.{Step}
 use Rattle.runs.specs.declared.calls.State.TheVariants.{Settled, Clashed}
 use Rattle.runs.specs.declared.calls.Call.{Call}
-use Rattle.runs.specs.declared.calls.Answer.{Answer}
 use Rattle.runs.specs.Views.{View, opened, standing}
-use Rattle.runs.specs.Calls.{Does}
+use Rattle.runs.specs.Calls.{Answered, Does}
 use Rattle.runs.specs.Runs.{Event, Run, chosen_by}
 use Rattle.runs.specs.Reasons.{Meets, Still, Because}
 
@@ -58,10 +57,10 @@ pub record Hopeless (rules : List Meaning) (chosen : List ℤ) (s : Setting) (r 
 
 -- ---- one list of calls
 
--- the chosen literals as the trail has them: those of rule 0
+-- the chosen literals as the trail has them: those that no rule locked
 abbrev pub chosen_in : List Step → List ℤ
 chosen_in [] = []
-chosen_in (x ∷ xs) = cond (x.rule == 0) (number x.literal ∷ chosen_in xs) (chosen_in xs)
+chosen_in (x ∷ xs) = cond (is_none x.rule) (number x.literal ∷ chosen_in xs) (chosen_in xs)
 
 -- the trail has the chosen literals, in their order; where it is settled, what stands is the least stable set over them; where it is
 -- clashed, there is no hope
@@ -91,10 +90,10 @@ pub record Agree (v w : View) : Type 0 where
 -- ---- every list of calls
 
 pub record One (rules : List Meaning) (v : View) (c : Call) : Type 0 where
-  pub answer : Answer
+  pub answer : Answered
   pub view : View
   pub does : Does rules v c answer view
-  pub only : (a : Answer) (w : View) → Does rules v c a w → (a ≡ answer) × (w ≡ view)
+  pub only : (a : Answered) (w : View) → Does rules v c a w → (a ≡ answer) × (w ≡ view)
 
 abbrev pub EverySure : List Meaning → Type 0
 EverySure rules = (events : List Event) (w : View) → Run rules opened events w → Sure rules events w

@@ -6,7 +6,7 @@
 --   Still      no rule forces a literal from a set
 --   Because    the chosen literals that a place reaches suffice for its literal
 --   Explains   what is told of a standing switch
-use Rattle.std.specs.Prelude.{◌≡◌, ℕ, ◌-◌, ◌<◌, ◌≤◌, true, false, List, [], ◌∷◌, Decides}
+use Rattle.std.specs.Prelude.{◌≡◌, ℕ, ◌-◌, ◌<◌, ◌≤◌, true, false, List, [], ◌∷◌, Some, None, Option, Decides}
 use Rattle.bits.specs.Words.{bit}
 use Rattle.literals.specs.declared.literal.Literal.{Literal}
 use Rattle.literals.specs.declared.refusal.Refusal.TheVariants.{OutOfRange, SwitchFree}
@@ -27,7 +27,9 @@ pub record Leads (rules : List Meaning) (t : List Step) (i j : ℕ) : Type 0 whe
   pub to : Step
   pub earlier : j < i
   pub there : Numbered t j to
-  pub mentions : OfRule rules from.rule (λ m. m.mentions to.literal.switch ≡ true)
+  pub rule : ℕ
+  pub by : from.rule ≡ Some rule
+  pub mentions : OfRule rules rule (λ m. m.mentions to.literal.switch ≡ true)
 
 pub data Reaches (rules : List Meaning) (t : List Step) (i : ℕ) : ℕ → Type 0 where
   itself : Reaches rules t i i
@@ -39,7 +41,7 @@ pub record Reason (rules : List Meaning) (t : List Step) (i n : ℕ) : Type 0 wh
   pub step : Step
   pub at : Numbered t place step
   pub reached : Reaches rules t i place
-  pub chosen : step.rule ≡ 0
+  pub chosen : step.rule ≡ None
   pub switch : step.literal.switch ≡ n
 
 abbrev pub Meets : List Meaning → Setting → Type 0
@@ -52,7 +54,7 @@ Still rules s = Every rules (λ m. (l : Literal) → Forces m.breaks s l → ⊥
 abbrev pub Because : List Meaning → List Step → Type 0
 Because rules t =
     (i : ℕ) (x : Step) → Numbered t i x → (s : Setting) → Meets rules s → Still rules s
-    → ((j : ℕ) (y : Step) → Numbered t j y → Reaches rules t i j → y.rule ≡ 0 → stands s y.literal ≡ true)
+    → ((j : ℕ) (y : Step) → Numbered t j y → Reaches rules t i j → y.rule ≡ None → stands s y.literal ≡ true)
     → stands s x.literal ≡ true
 
 -- ---- what is told of a switch
@@ -62,11 +64,11 @@ why_checks t n = check (no_switch n) OutOfRange ∷ check (free_switch (standing
 
 -- the set holds the chosen literals of the trail whose switches the word has
 abbrev pub HoldsWord : List Step → ℕ → Setting → Type 0
-HoldsWord t word s = (j : ℕ) (y : Step) → Numbered t j y → y.rule ≡ 0 → bit word (y.literal.switch - 1) ≡ true → stands s y.literal ≡ true
+HoldsWord t word s = (j : ℕ) (y : Step) → Numbered t j y → y.rule ≡ None → bit word (y.literal.switch - 1) ≡ true → stands s y.literal ≡ true
 
--- switch n stands by this rule, 0 where it was chosen; the word has exactly the chosen switches that it reaches; and every unbroken set
+-- switch n stands by this rule, none where it was chosen; the word has exactly the chosen switches that it reaches; and every unbroken set
 -- that holds those chosen literals and forces nothing contains its literal
-pub record Explains (rules : List Meaning) (t : List Step) (n rule word : ℕ) : Type 0 where
+pub record Explains (rules : List Meaning) (t : List Step) (n : ℕ) (rule : Option ℕ) (word : ℕ) : Type 0 where
   pub place : ℕ
   pub step : Step
   pub at : Numbered t place step

@@ -5,7 +5,7 @@
 --   standing      the set of them
 --   step          a place of a trail
 --   up_to         the places of a trail at a level or below
-use Rattle.std.specs.Prelude.{ℕ, cond, List, [], ◌∷◌, map, nat_le}
+use Rattle.std.specs.Prelude.{ℕ, cond, List, [], ◌∷◌, map, Option, nat_le}
 use Rattle.literals.specs.declared.literal.Literal.{Literal}
 use Rattle.literals.specs.declared.setting.Setting.{Setting}
 use Rattle.literals.specs.Settings.{set_of}
@@ -27,7 +27,7 @@ literals_on t = map (λ (x : Step). x.literal) t
 abbrev pub standing : List Step → Setting
 standing t = set_of (literals_on t)
 
-abbrev pub step : Literal → ℕ → ℕ → Step
+abbrev pub step : Literal → ℕ → Option ℕ → Step
 step l level rule = record { literal = l; level = level; rule = rule }
 
 abbrev pub up_to : ℕ → List Step → List Step

@@ -1,7 +1,7 @@
 use literals::Refusal;
 
 // What a session may do next.
-#[derive(Clone, Copy)]
+#[derive(Clone, Copy, Debug, PartialEq, Eq, Hash)]
 pub enum State {
     // A literal was chosen, or the session was just opened: what follows from it is not on the trail yet.
     Unsettled,
@@ -13,27 +13,36 @@ pub enum State {
     Shut,
 }
 
-// What a session is asked to do. A call that takes a receipt has its rule and its level.
-#[derive(Clone, Copy)]
+// A rule that was found broken, and the level at which it was.
+#[derive(Clone, Copy, Debug, PartialEq, Eq, Hash)]
+pub struct Clash {
+    pub rule: usize,
+    pub level: u8,
+}
+
+// What a session is asked to do. A call that takes a receipt has the clash that it stands for.
+#[derive(Clone, Copy, Debug, PartialEq, Eq, Hash)]
 pub enum Call {
     Settle,
     // A literal, by its number.
     Choose(i32),
     // To a level.
     Back(u32),
-    // The receipt's rule and level, and the level to go back to.
-    BackFromClash(usize, u8, u32),
-    // The receipt's rule and level.
-    Close(usize, u8),
+    // The receipt's clash, and the level to go back to.
+    BackFromClash(Clash, u32),
+    // The receipt's clash.
+    Close(Clash),
 }
 
-// What a call answers.
-#[derive(Clone, Copy)]
-pub enum Answer {
+// What a call that is done answers.
+#[derive(Clone, Copy, Debug, PartialEq, Eq, Hash)]
+pub enum Reply {
     Done,
     // By how many literals the trail grew.
     Grown(u8),
-    // The rule that is broken, the level, the letter of the shelf that holds the rule.
-    Clash(usize, u8, char),
-    Refused(Refusal),
+    // With the letter of the shelf that holds the broken rule.
+    Clash(Clash, char),
 }
+
+// What a call answers: its reply, or why it was refused.
+pub type Answer = Result<Reply, Refusal>;

@@ -5,6 +5,6 @@ mod calls;
 mod laws;
 mod step;
 
-pub use calls::{Answer, Call, State};
+pub use calls::{Answer, Call, Clash, Reply, State};
 pub use laws::laws_over_runs;
 pub use step::Step;

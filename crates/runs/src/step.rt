@@ -1,9 +1,9 @@
 use literals::Literal;
 
-// A place of the trail: a literal that stands, the level at which it came, and the rule that locked it, or 0 where it was chosen.
+// A place of the trail: a literal that stands, the level at which it came, and the rule that locked it, none where it was chosen.
 #[derive(Clone, Copy)]
 pub struct Step {
     pub literal: Literal,
     pub level: u8,
-    pub rule: usize,
+    pub rule: Option<usize>,
 }

@@ -1,3 +1,2 @@
-pub mod Hands
 pub mod Likeness
 pub mod Playing

@@ -1,13 +1,15 @@
 -- What two sessions tell alike.
 use Rattle.std.proofs.Common.{◌≡◌, ℕ, Bool, ◌&&◌, eqb, List, length, ℤ, Decides, sym, ap, ◌∙◌, subst}
 use Rattle.std.proofs.lemmas.Bool.Decides.{Decides-eqb, Decides-and, Decides-like}
+use Rattle.std.proofs.Math.Logic.{∥∥₁_elim}
+use Rattle.std.proofs.Props.{props}
 use Rattle.literals.specs.declared.setting.Setting.{Setting}
 use Rattle.literals.specs.Settings.{stands, free_count, ◌⊆◌}
 use Rattle.lists.proofs.Members.{sets_same}
 use Rattle.shelf.specs.Meanings.{Meaning, Match, Every, Lawful}
 use Rattle.runs.specs.Views.{View, literals_on, standing}
 use Rattle.runs.specs.Runs.{chosen_by}
-use Rattle.session.specs.Sessions.{Reached}
+use Rattle.session.specs.Logs.{Reached}
 use Rattle.runs.specs.Laws.{Alike, Agree, Same, Laws, chosen_in}
 
 module _ (v w : View) (a b m n : ℕ) (there back : Bool) (la : a ≡ v.level) (lb : b ≡ w.level) (lm : m ≡ length v.trail) (ln : n ≡ length w.trail) where
@@ -33,13 +35,18 @@ module _ (v w : View) (a b m n : ℕ) (there back : Bool) (la : a ≡ v.level) (
       (Decides-and ((eqb a b && eqb m n) && there) back (Decides-and (eqb a b && eqb m n) there (Decides-and (eqb a b) (eqb m n) (Decides-eqb a b) (Decides-eqb m n)) d) e)
 
 -- the literals that the trail has as chosen are those that the calls chose
-pub reached_agree : (rules others : List Meaning) (v w : View) → Laws rules → Laws others → Every others Lawful → Reached rules v → Reached others w → Match rules others
+runs_agree : (rules others : List Meaning) (v w : View) → Laws rules → Laws others → Every others Lawful → Reached rules v → Reached others w → Match rules others
     → Same (chosen_in v.trail) (chosen_in w.trail) → Agree v w
-reached_agree rules others v w laws laws' lawful r q m e =
+runs_agree rules others v w laws laws' lawful r q m e =
     let p = (laws.sure r.events v r.run).chosen in
     let p' = (laws'.sure q.events w q.run).chosen in
     laws.agree others lawful m r.events q.events v w r.run q.run
     (subst (λ (ns : List ℤ). Same ns (chosen_by q.events)) p (subst (λ (ns : List ℤ). Same (chosen_in v.trail) ns) p' e))
+
+pub reached_agree : (rules others : List Meaning) (v w : View) → Laws rules → Laws others → Every others Lawful → ∥ Reached rules v ∥₁ → ∥ Reached others w ∥₁ → Match rules others
+    → Same (chosen_in v.trail) (chosen_in w.trail) → Agree v w
+reached_agree rules others v w laws laws' lawful some other m e =
+    ∥∥₁_elim some (hlevel props) (λ r. ∥∥₁_elim other (hlevel props) (λ q. runs_agree rules others v w laws laws' lawful r q m e))
 
 pub within_by : (b : Bool) (s t s' t' : Setting) → s ≡ s' → t ≡ t' → Decides b (s ⊆ t) → Decides b (s' ⊆ t')
 within_by b s t s' t' e f d = subst (λ (x : Setting). Decides b (s' ⊆ x)) f (subst (λ (x : Setting). Decides b (x ⊆ t)) e d)

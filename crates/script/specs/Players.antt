@@ -1,19 +1,22 @@
--- When a player is sound.
---   Hand          a receipt is held exactly where a clash stands, and it is of that rule and level
---   PlayerSound   the session is sound, and the hand is right
-use Rattle.std.specs.Prelude.{List, Some, None, Option}
-use Rattle.literals.specs.declared.literal.Literal.{Literal}
-use Rattle.shelf.specs.Meanings.{Meaning}
+-- What a player holds.
+--   Hand    a receipt is held exactly where a clash stands, and it is of that clash
+--   given   what a settle gives to hold
+use Rattle.std.specs.Prelude.{Some, None, Option}
+use Rattle.std.proofs.Props.{props}
 use Rattle.runs.specs.Views.{View}
+use Rattle.session.specs.declared.receipt.Outcome.{Outcome}
+use Rattle.session.specs.declared.receipt.Outcome.TheVariants.{Quiet, Clash}
 use Rattle.session.specs.declared.receipt.Receipt.{Receipt}
-use Rattle.session.specs.Sessions.{seen, Sound}
-use Rattle.script.specs.declared.player.Player.{Player}
 use Rattle.script.specs.Plays.{Out, NoneOut}
 
 abbrev pub Hand : View → Option Receipt → Type 0
 Hand v None = NoneOut v
-Hand v (Some x) = Out v x.rule x.level
+Hand v (Some x) = Out v x.clash
 
-pub record PlayerSound {S : Type 0} (sound : S → Type 0) (rules : S → List Meaning) (told : S → List Literal) (p : Player S) : Type 0 where
-  pub session : Sound sound rules told p.session
-  pub hand : Hand (seen p.session) p.held
+pub Hand-prop : (v : View) (h : Option Receipt) → IsProp (Hand v h)
+Hand-prop v None = hlevel props
+Hand-prop v (Some x) = hlevel props
+
+abbrev pub given : Outcome → Option Receipt
+given (Quiet n) = None
+given (Clash x) = Some x

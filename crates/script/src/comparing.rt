@@ -1,5 +1,5 @@
 ghost use Rattle.runs.specs.Laws.{Agree, Alike, chosen_in, Same};
-ghost use Rattle.session.specs.Sessions.{seen, Sound};
+ghost use Rattle.session.specs.Sessions.{seen};
 ghost use Rattle.shelf.specs.Meanings.{Match};
 ghost use Rattle.std.specs.Prelude.{Decides};
 
@@ -9,8 +9,6 @@ use shelf::Shelf;
 // Two sessions tell level, free count, trail length and every switch alike. Where their rules match and the same literals are chosen, in any
 // order, two settled sessions do, and never is one settled and one clashed.
 pub fn alike<A: Shelf, B: Shelf>(first: &Session<A>, second: &Session<B>) -> bool
-    requires first { Sound A.Shelf.sound A.Shelf.rules A.Shelf.told first.now }
-    requires second { Sound B.Shelf.sound B.Shelf.rules B.Shelf.told second.now }
     ensures alike { Decides result (Alike (seen first.now) (seen second.now)) }
     ensures agree { Match (A.Shelf.rules first.now.shelf) (B.Shelf.rules second.now.shelf) → Same (chosen_in (seen first.now).trail) (chosen_in (seen second.now).trail) → Agree (seen first.now) (seen second.now) }
 {

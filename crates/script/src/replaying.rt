@@ -1,6 +1,5 @@
 ghost use Rattle.std.specs.Prelude.{◌≡◌, IfOk, OnOk};
 ghost use Rattle.runs.specs.Laws.{Laws};
-ghost use Rattle.script.specs.Players.{PlayerSound};
 ghost use Rattle.script.specs.Plays.{Replayed};
 ghost use Rattle.session.specs.Sessions.{seen};
 
@@ -11,7 +10,7 @@ use shelf::Shelf;
 use std::alloc::{AllocError, Global};
 
 // A session after a list of requests, with the answer to each; a request that was passed over has none.
-pub struct Played<S> {
+pub struct Played<S: Shelf> {
     pub player: Player<S>,
     pub answers: Vec<Option<Answer>>,
 }
@@ -23,8 +22,6 @@ pub fn replay<S: Shelf + Drop>(
     shelf: S,
     requests: &[Request],
 ) -> Result<Played<S>, AllocError>
-    requires sound { S.Shelf.sound shelf }
-    ensures sound { IfOk result (λ x. PlayerSound S.Shelf.sound S.Shelf.rules S.Shelf.told x.player) }
     ensures rules { IfOk result (λ x. S.Shelf.rules x.player.session.shelf ≡ S.Shelf.rules shelf) }
     ensures replayed { IfOk result (λ x. Replayed (S.Shelf.rules shelf) requests.now x.answers.items (seen x.player.session)) }
     ensures laws { OnOk result (Laws (S.Shelf.rules shelf)) }

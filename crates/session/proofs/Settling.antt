@@ -20,33 +20,35 @@ use Rattle.runs.specs.Views.{literals_on, standing, step}
 use Rattle.runs.specs.Calls.{Settles, quiet, broken, locks}
 use Rattle.runs.proofs.Trails.{literals-push, standing-push, once_more, count_once}
 use Rattle.session.specs.declared.log.Log.{Log}
-use Rattle.session.specs.Logs.{Live, Grew, Ran}
+use Rattle.session.specs.Logs.{Ran}
 
 -- ---- one literal more
 
-module _ (P : Type 0) (ls : List Literal) (g : Log) (live : Live P ls g) (l : Literal) (f : free (standing (held g.steps)) l ≡ true) where
-  pub roomy : length (held g.steps) < 64
+module _ (t : List Step) (x : Step) (once : distinct (literals_on t) ≡ true) (f : free (standing t) x.literal ≡ true) where
+  roomy : length t < 64
   roomy =
-      let a = count_once (held g.steps) live.once in
-      let b = free_count-plus (standing (held g.steps)) l f in
+      let a = count_once t once in
+      let b = free_count-plus (standing t) x.literal f in
       omega arith
 
-  pub free_told : free (set_of ls) l ≡ true
-  free_told = subst (λ (ms : List Literal). free (set_of ms) l ≡ true) (sym live.told) f
+  module _ (u : List Step) (items : length t < 64 → u ≡ t ++ x ∷ []) where
+    pub put_steps : u ≡ t ++ x ∷ []
+    put_steps = items roomy
 
-  -- what a step does to the shelf and the log
-  pub lives : (P' E : Type 0) (after : List Literal) (h : Log) (level rule : ℕ) (n : ℤ) (r : Result (Unit {0}) Refusal) → number l ≡ n → P'
-      → refusal_of r ≡ first_failed (tell_checks ls n) → MatchResult r (λ _. Appended ls n after) (λ _. E)
-      → held h.steps ≡ held g.steps ++ step l level rule ∷ [] → h.standing ≡ plus g.standing l → Live P' after h
-  lives P' E after h level rule n r e sound q c st set =
-      let x = step l level rule in
-      let t = held g.steps in
-      record {
-        shelf = sound;
-        told = tells_free E ls after l n r e free_told q c ∙ ap (λ (ms : List Literal). ms ++ l ∷ []) live.told ∙ sym (literals-push t x) ∙ ap literals_on (sym st);
-        set = set ∙ ap (λ (s : Setting). plus s l) live.set ∙ sym (standing-push t x) ∙ ap standing (sym st);
-        once = ap (λ (u : List Step). distinct (literals_on u)) st ∙ once_more t x f live.once;
-      }
+    pub put_set : (s s' : Setting) → s ≡ standing t → s' ≡ plus s x.literal → s' ≡ standing u
+    put_set s s' e p = p ∙ ap (λ (y : Setting). plus y x.literal) e ∙ sym (standing-push t x) ∙ ap standing (sym put_steps)
+
+    pub put_once : distinct (literals_on u) ≡ true
+    put_once = ap (λ (y : List Step). distinct (literals_on y)) put_steps ∙ once_more t x f once
+
+-- what a shelf has that was told the literals of the trail
+pub told_free : (t : List Step) (ls : List Literal) (l : Literal) → ls ≡ literals_on t → free (standing t) l ≡ true → free (set_of ls) l ≡ true
+told_free t ls l e f = subst (λ (ms : List Literal). free (set_of ms) l ≡ true) (sym e) f
+
+pub put_told : (E : Type 0) (t u : List Step) (x : Step) (ls after : List Literal) (n : ℤ) (r : Result (Unit {0}) Refusal) → ls ≡ literals_on t → free (standing t) x.literal ≡ true → number x.literal ≡ n
+    → refusal_of r ≡ first_failed (tell_checks ls n) → MatchResult r (λ _. Appended ls n after) (λ _. E) → u ≡ t ++ x ∷ [] → after ≡ literals_on u
+put_told E t u x ls after n r e f is q c st =
+    tells_free E ls after x.literal n r is (told_free t ls x.literal e f) q c ∙ ap (λ (ms : List Literal). ms ++ x.literal ∷ []) e ∙ sym (literals-push t x) ∙ ap literals_on (sym st)
 
 -- ---- turn by turn
 
@@ -59,26 +61,27 @@ pub record Going (rules : List Meaning) (g h : Log) : Type 0 where
 pub start : (rules : List Meaning) (g : Log) → Going rules g g
 start rules g = record { settles = λ u v s. s; state = refl; level = refl }
 
-pub again : (rules : List Meaning) (g h i : Log) (r : ℕ) (l : Literal) → Going rules g h → Answers rules (standing (held h.steps)) (Forced r l) → Grew l r h i → Going rules g i
-again rules g h i r l o a w =
-    let e : held i.steps ≡ held h.steps ++ step l g.level r ∷ [] = w.steps ∙ ap (λ (n : ℕ). held h.steps ++ step l n r ∷ []) o.level in
+pub again : (rules : List Meaning) (g h i : Log) (r : ℕ) (l : Literal) → Going rules g h → Answers rules (standing (held h.steps)) (Forced r l)
+    → held i.steps ≡ held h.steps ++ step l h.level (Some r) ∷ [] → i.state ≡ h.state → i.level ≡ h.level → Going rules g i
+again rules g h i r l o a steps state level =
+    let e : held i.steps ≡ held h.steps ++ step l g.level (Some r) ∷ [] = steps ∙ ap (λ (n : ℕ). held h.steps ++ step l n (Some r) ∷ []) o.level in
     record {
       settles = λ u v s. o.settles u v (locks a (subst (λ (t : List Step). Settles rules g.level t u v) e s));
-      state = w.state ∙ o.state;
-      level = w.level ∙ o.level;
+      state = state ∙ o.state;
+      level = level ∙ o.level;
     }
 
-pub shorter : (P : Type 0) (ls : List Literal) (g h : Log) (l : Literal) (r : ℕ) → Live P ls h → Grew l r g h → 64 - length (held h.steps) < 64 - length (held g.steps)
-shorter P ls g h l r live w =
-    let a = length_push (held g.steps) (step l g.level r) in
-    let b = ap length w.steps in
-    let c = count_once (held h.steps) live.once in
+pub shorter : (t u : List Step) (x : Step) → distinct (literals_on u) ≡ true → u ≡ t ++ x ∷ [] → 64 - length u < 64 - length t
+shorter t u x once e =
+    let a = length_push t x in
+    let b = ap length e in
+    let c = count_once u once in
     omega arith
 
 -- what the shelf answers of its told literals it answers of the trail
-pub asked : (P : Type 0) (rules rules' : List Meaning) (ls : List Literal) (g : Log) (v : Verdict) → Live P ls g → rules ≡ rules' → Answers rules (set_of ls) v → Answers rules' (standing (held g.steps)) v
-asked P rules rules' ls g v live e a =
-    subst (λ (ms : List Meaning). Answers ms (standing (held g.steps)) v) e (subst (λ (ms : List Literal). Answers rules (set_of ms) v) live.told a)
+pub asked : (rules rules' : List Meaning) (ls : List Literal) (t : List Step) (v : Verdict) → ls ≡ literals_on t → rules ≡ rules' → Answers rules (set_of ls) v → Answers rules' (standing t) v
+asked rules rules' ls t v told e a =
+    subst (λ (ms : List Meaning). Answers ms (standing t) v) e (subst (λ (ms : List Literal). Answers rules (set_of ms) v) told a)
 
 pub ran_quiet : (rules : List Meaning) (g h : Log) → Going rules g h → Answers rules (standing (held h.steps)) Quiet → Ran rules g None h
 ran_quiet rules g h o a = record { settles = o.settles _ Quiet (quiet a); state = o.state; level = o.level }

@@ -1,20 +1,19 @@
 -- What a session keeps beside its shelf.
 --   view_of   what is seen of it
 --   Front     how many steps of a trail are left at a level
---   Live      the shelf and the log agree
---   Grew      the log has one step more
+--   Reached   some list of calls led to a view
+--   Cut       what is left of a trail at a level
 --   Ran       what came of settling
-use Rattle.std.specs.Prelude.{◌≡◌, ℕ, ◌≤◌, true, List, [], ◌∷◌, ◌++◌, length, take, Some, None, Option}
+use Rattle.std.specs.Prelude.{◌≡◌, ℕ, ◌≤◌, List, length, take, Some, None, Option}
 use Rattle.bounded.specs.Held.{held}
-use Rattle.literals.specs.declared.literal.Literal.{Literal}
-use Rattle.lists.specs.Lists.{distinct}
 use Rattle.rules.specs.declared.Verdict.{Verdict}
 use Rattle.rules.specs.declared.Verdict.TheVariants.{Quiet, Broken}
 use Rattle.rules.specs.Scans.{Numbered}
 use Rattle.shelf.specs.Meanings.{Meaning}
 use Rattle.runs.specs.declared.step.Step.{Step}
-use Rattle.runs.specs.Views.{View, literals_on, standing, step, up_to}
+use Rattle.runs.specs.Views.{View, opened, up_to}
 use Rattle.runs.specs.Calls.{Settles}
+use Rattle.runs.specs.Runs.{Event, Run}
 use Rattle.session.specs.declared.log.Log.{Log}
 
 abbrev pub view_of : Log → View
@@ -26,18 +25,16 @@ pub record Front (k : ℕ) (t : List Step) (n : ℕ) : Type 0 where
   pub all : up_to k (take n t) ≡ up_to k t
   pub last : (x : Step) → Numbered t n x → x.level ≤ k
 
--- the shelf is sound and was told the literals of the trail, no switch twice, and the log has the set of them
-pub record Live (shelf_sound : Type 0) (ls : List Literal) (g : Log) : Type 0 where
-  pub shelf : shelf_sound
-  pub told : ls ≡ literals_on (held g.steps)
-  pub set : g.standing ≡ standing (held g.steps)
-  pub once : distinct (literals_on (held g.steps)) ≡ true
+-- some list of calls led from a new session to this view
+pub record Reached (rules : List Meaning) (v : View) : Type 0 where
+  pub events : List Event
+  pub run : Run rules opened events v
 
--- h is g with one step more, at the same level
-pub record Grew (l : Literal) (rule : ℕ) (g h : Log) : Type 0 where
-  pub steps : held h.steps ≡ held g.steps ++ step l g.level rule ∷ []
-  pub state : h.state ≡ g.state
-  pub level : h.level ≡ g.level
+-- u is that front of t
+pub record Cut (k : ℕ) (t u : List Step) : Type 0 where
+  pub left : ℕ
+  pub front : Front k t left
+  pub is : u ≡ take left t
 
 -- the verdict at the end: no rule is broken, or this one
 abbrev pub ending : Option ℕ → Verdict

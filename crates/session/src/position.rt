@@ -1,7 +1,7 @@
 mod reading;
 
 // What is told of a switch.
-#[derive(Clone, Copy)]
+#[derive(Clone, Copy, Debug, PartialEq, Eq, Hash)]
 pub enum Position {
     On,
     Off,

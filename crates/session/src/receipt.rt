@@ -1,21 +1,32 @@
 ghost use Rattle.std.specs.Prelude.{◌≡◌};
 
 use literals::Refusal;
+use runs::Clash;
+use std::fmt;
 
-// Stands for a clash. It cannot be let go: going back from the clash or closing the session takes it.
+// Stands for a clash, with the letter of the shelf that holds its rule. It cannot be let go: going back from the clash or closing the session takes it.
+#[derive(Debug, PartialEq, Eq)]
 pub struct Receipt {
-    pub(crate) rule: usize,
-    pub(crate) level: u8,
+    pub(crate) clash: Clash,
     pub(crate) letter: char,
 }
 
 // A refusal gives the receipt back.
+#[derive(Debug, PartialEq, Eq)]
 pub struct Returned {
     pub refusal: Refusal,
     pub receipt: Receipt,
 }
 
+// It prints as its refusal. `Error` is only for what may be let go, and a receipt may not.
+impl fmt::Display for Returned {
+    fn fmt<W: fmt::Write>(&self, f: &mut fmt::Formatter<W>) -> fmt::Result {
+        write!(f, "{}", self.refusal)
+    }
+}
+
 // How a settle ended.
+#[derive(Debug, PartialEq, Eq)]
 pub enum Outcome {
     // Settled: by how many literals the trail grew.
     Quiet(u8),
@@ -23,18 +34,25 @@ pub enum Outcome {
 }
 
 impl Receipt {
+    // The rule that is broken, and the level.
+    pub fn clash(&self) -> Clash
+        ensures { result ≡ self.now.clash }
+    {
+        self.clash
+    }
+
     // The rule that is broken.
     pub fn rule(&self) -> usize
-        ensures { result ≡ self.now.rule }
+        ensures { result ≡ self.now.clash.rule }
     {
-        self.rule
+        self.clash.rule
     }
 
     // The level of the clash.
     pub fn level(&self) -> u8
-        ensures { result ≡ self.now.level }
+        ensures { result ≡ self.now.clash.level }
     {
-        self.level
+        self.clash.level
     }
 
     // The letter of the shelf that holds the rule.
@@ -47,8 +65,7 @@ impl Receipt {
     // Going back and closing end here.
     pub(crate) fn spend(self) {
         let Receipt {
-            rule: _,
-            level: _,
+            clash: _,
             letter: _,
         } = self;
     }

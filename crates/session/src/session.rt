@@ -1,11 +1,20 @@
+ghost use Rattle.std.specs.Prelude.{◌≡◌};
+ghost use Rattle.bounded.specs.Held.{held};
+ghost use Rattle.runs.specs.Views.{literals_on};
+ghost use Rattle.session.specs.Logs.{Reached, view_of};
+
 mod calls;
+mod moves;
 mod tells;
 
 use crate::log::Log;
+use shelf::Shelf;
 
-// A shelf with the log of what was done over it.
+// A shelf with the log of what was done over it. The shelf was told the literals of the trail, in order, and some list of calls led here.
 #[derive(Drop)]
-pub struct Session<S> {
+pub struct Session<S: Shelf> {
     pub(crate) shelf: S,
     pub(crate) log: Log,
+    ghost told: { S.Shelf.told shelf ≡ literals_on (held log.steps) },
+    ghost reached: { ∥ Reached (S.Shelf.rules shelf) (view_of log) ∥₁ },
 }

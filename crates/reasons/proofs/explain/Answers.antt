@@ -1,38 +1,29 @@
-use Rattle.std.proofs.Common.{◌≡◌, ◌+◌, ◌<◌, length, get_or, ap, arith, rules}
+use Rattle.std.proofs.Common.{rules, ◌≡◌, ◌+◌, position, Some, None, ap, ◌∙◌}
+use Rattle.literals.specs.declared.refusal.Refusal.TheVariants.{SwitchFree}
+use Rattle.literals.specs.Refusals.{refusal_of}
 use Rattle.runs.specs.declared.step.Step.{Step}
-use Rattle.reasons.proofs.Explaining.{explains, free_refused, place_step, place_within, standing_told, trail_because, trail_once}
+use Rattle.reasons.proofs.Places.{of_switch, found, absent}
+use Rattle.reasons.proofs.Explaining.{explains, free_refused, standing_told, trail_because, trail_once}
 use Rattle.reasons.proofs.explain.Goals as goal
 
-pub offset_bounds-steps-place : goal.offset_bounds-steps-place
-offset_bounds-steps-place g c =
-    let within : c.in-Some.place < length c.args.steps.now = place_within c.args.steps.now c.in-Some.place c.args.switch c.in-Some.ensures in
-    search rules
+pub invariant_of-trail : goal.invariant_of-trail
+invariant_of-trail g c = record { once = trail_once (g.S.Shelf.rules c.args.shelf.now) c.args.steps.now c.requires.trail }
 
-pub bounds-steps-place : goal.bounds-steps-place
-bounds-steps-place g c = place_within c.args.steps.now c.in-Some.place c.args.switch c.in-Some.ensures
+pub returns-in_err-place-clause-refused : goal.returns-in_err-place-clause-refused
+returns-in_err-place-clause-refused g c =
+    let none : position (of_switch c.args.switch) c.args.steps.now ≡ None = search rules in
+    let free : refusal_of c.from_residual.result ≡ Some SwitchFree = search rules in
+    free ∙ free_refused c.args.steps.now c.args.switch c.if-switch-lt1.false c.if-switch-gt64.false (absent c.args.steps.now c.args.switch none)
 
-pub bounds-steps-place-in-Some : goal.bounds-steps-place-in-Some
-bounds-steps-place-in-Some g c = place_within c.args.steps.now c.in-Some.place c.args.switch c.in-Some.ensures
+pub returns-clause-refused : goal.returns-clause-refused
+returns-clause-refused g c =
+    let some : position (of_switch c.args.switch) c.args.steps.now ≡ Some c.in_ok-place.place = search rules in
+    let f = found c.args.steps.now c.in_ok-place.place c.args.switch c.index-steps-place.result some c.index-steps-place.is in
+    standing_told c.args.steps.now c.args.switch c.if-switch-lt1.false c.if-switch-gt64.false (c.in_ok-place.place + 1) c.index-steps-place.result f.at f.switch
 
-pub reached-requires : goal.reached-requires
-reached-requires g c =
-    record {
-      sound = c.requires.sound;
-      once = trail_once (g.S.Shelf.rules c.args.shelf.now) c.args.steps.now c.requires.trail;
-      place = place_within c.args.steps.now c.in-Some.place c.args.switch c.in-Some.ensures;
-    }
-
-pub returns-in-None : goal.returns-in-None
-returns-in-None g c = record { refused = free_refused c.args.steps.now c.args.switch (λ h. omega arith) (λ h. omega arith) c.in-None.ensures; explains = tt }
-
-pub returns-in-Some : goal.returns-in-Some
-returns-in-Some g c =
-    let rules = g.S.Shelf.rules c.args.shelf.now in
-    let t = c.args.steps.now in
-    let there = c.in-Some.ensures in
-    let by : there.0.rule ≡ (get_or t c.in-Some.place c.index-steps-place.result).rule = ap (λ (y : Step). y.rule) (place_step t c.in-Some.place there.0 c.index-steps-place.result there.1) in
-    record {
-      refused = standing_told t c.args.switch (λ h. omega arith) (λ h. omega arith) (c.in-Some.place + 1) there.0 there.1 there.2;
-      explains = explains rules t (c.in-Some.place + 1) c.switches.result c.reached.result c.reached.ensures c.switches.ensures c.args.switch _ there.0
-          (trail_because rules t c.laws.ensures.lawful c.requires.trail) there.1 there.2 by;
-    }
+pub returns-clause-explains : goal.returns-clause-explains
+returns-clause-explains g c =
+    let some : position (of_switch c.args.switch) c.args.steps.now ≡ Some c.in_ok-place.place = search rules in
+    let f = found c.args.steps.now c.in_ok-place.place c.args.switch c.index-steps-place.result some c.index-steps-place.is in
+    explains (g.S.Shelf.rules c.args.shelf.now) c.args.steps.now (c.in_ok-place.place + 1) c.switches.result c.reached.result c.reached.ensures c.switches.ensures c.args.switch _ c.index-steps-place.result
+    (trail_because (g.S.Shelf.rules c.args.shelf.now) c.args.steps.now (g.met.S.Shelf.lawful c.args.shelf.now) c.requires.trail) f.at f.switch (ap (λ (y : Step). y.rule) c.index-steps-place.is)

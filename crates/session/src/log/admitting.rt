@@ -1,14 +1,12 @@
 ghost use Rattle.std.specs.Prelude.{◌≡◌, not, ◌&&◌, if◌then◌else◌, Some, None, ◌==◌, nat_le};
-ghost use Rattle.bounded.specs.Held.{held};
 ghost use Rattle.literals.specs.Refusals.{first_failed, refusal_of};
-ghost use Rattle.runs.specs.Calls.{checks, input_checks};
-ghost use Rattle.runs.specs.Views.{standing};
+ghost use Rattle.runs.specs.Calls.{checks, input_checks, is_clashed, is_shut, is_unsettled, wrong_receipt};
 ghost use Rattle.session.specs.Logs.{view_of};
 ghost use Rattle.told.specs.Tellings.{free_checks};
 
 use crate::log::Log;
 use literals::{Literal, Refusal};
-use runs::{Call, State};
+use runs::{Call, Clash, State};
 
 const MOST_LEVEL: u32 = 64;
 
@@ -17,14 +15,9 @@ fn check_input(call: Call) -> Result<(), Refusal>
     ensures { refusal_of result ≡ first_failed (input_checks call) }
 {
     match call {
-        Call::Choose(n) => match Literal::of_number(n) {
-            Ok(_) => Ok(()),
-            Err(e) => Err(e),
-        },
-        Call::Back(k) => check_level(k),
-        Call::BackFromClash(_, _, k) => check_level(k),
-        Call::Settle => Ok(()),
-        Call::Close(_, _) => Ok(()),
+        Call::Choose(n) => Literal::try_from(n).map(|_| ()),
+        Call::Back(k) | Call::BackFromClash(_, k) => check_level(k),
+        Call::Settle | Call::Close(_) => Ok(()),
     }
 }
 
@@ -40,41 +33,66 @@ fn check_level(k: u32) -> Result<(), Refusal>
 impl Log {
     // What the call and the state together decide.
     pub(crate) fn admit(&self, call: Call) -> Result<(), Refusal>
-        requires { self.now.standing ≡ standing (held self.now.steps) }
         ensures { refusal_of result ≡ first_failed (checks (view_of self.now) call) }
     {
         check_input(call)?;
-        match (self.state, call) {
-            (State::Shut, _) => Err(Refusal::Shut),
-            (State::Clashed(_), Call::Settle) => Err(Refusal::ClashStands),
-            (State::Clashed(_), Call::Choose(_)) => Err(Refusal::ClashStands),
-            (State::Clashed(_), Call::Back(_)) => Err(Refusal::ClashStands),
-            (State::Clashed(rule), Call::BackFromClash(of, level, k)) => {
-                self.check_receipt(rule, of, level)?;
+        self.check_open()?;
+        match call {
+            Call::Settle => self.check_no_clash(),
+            Call::Choose(n) => {
+                self.check_no_clash()?;
+                self.check_settled()?;
+                self.check_free(n)
+            }
+            Call::Back(k) => {
+                self.check_no_clash()?;
                 self.check_below(k)
             }
-            (State::Clashed(rule), Call::Close(of, level)) => self.check_receipt(rule, of, level),
-            (State::Unsettled, Call::Settle) => Ok(()),
-            (State::Unsettled, Call::Choose(_)) => Err(Refusal::Unsettled),
-            (State::Unsettled, Call::Back(k)) => self.check_below(k),
-            (State::Unsettled, Call::BackFromClash(_, _, _)) => Err(Refusal::WrongReceipt),
-            (State::Unsettled, Call::Close(_, _)) => Err(Refusal::WrongReceipt),
-            (State::Settled, Call::Settle) => Ok(()),
-            (State::Settled, Call::Choose(n)) => self.check_free(n),
-            (State::Settled, Call::Back(k)) => self.check_below(k),
-            (State::Settled, Call::BackFromClash(_, _, _)) => Err(Refusal::WrongReceipt),
-            (State::Settled, Call::Close(_, _)) => Err(Refusal::WrongReceipt),
+            Call::BackFromClash(of, k) => {
+                self.check_receipt(of)?;
+                self.check_below(k)
+            }
+            Call::Close(of) => self.check_receipt(of),
+        }
+    }
+
+    // Refused by 28 where the session is shut.
+    fn check_open(&self) -> Result<(), Refusal>
+        ensures { refusal_of result ≡ (if is_shut self.now.state then Some Refusal.Shut else None) }
+    {
+        match self.state {
+            State::Shut => Err(Refusal::Shut),
+            _ => Ok(()),
+        }
+    }
+
+    // Refused by 22 where a clash stands.
+    fn check_no_clash(&self) -> Result<(), Refusal>
+        ensures { refusal_of result ≡ (if is_clashed self.now.state then Some Refusal.ClashStands else None) }
+    {
+        match self.state {
+            State::Clashed(_) => Err(Refusal::ClashStands),
+            _ => Ok(()),
+        }
+    }
+
+    // Refused by 23 where a choice was not settled yet.
+    fn check_settled(&self) -> Result<(), Refusal>
+        ensures { refusal_of result ≡ (if is_unsettled self.now.state then Some Refusal.Unsettled else None) }
+    {
+        match self.state {
+            State::Unsettled => Err(Refusal::Unsettled),
+            _ => Ok(()),
         }
     }
 
     // Refused by 27 unless the receipt is of the rule that is broken and of the present level.
-    fn check_receipt(&self, rule: usize, of: usize, level: u8) -> Result<(), Refusal>
-        ensures { refusal_of result ≡ (if not (rule == of && self.now.level == level) then Some Refusal.WrongReceipt else None) }
+    fn check_receipt(&self, of: Clash) -> Result<(), Refusal>
+        ensures { refusal_of result ≡ (if wrong_receipt (view_of self.now) of then Some Refusal.WrongReceipt else None) }
     {
-        if rule == of && self.level == level {
-            Ok(())
-        } else {
-            Err(Refusal::WrongReceipt)
+        match self.state {
+            State::Clashed(rule) if rule == of.rule && self.level == of.level => Ok(()),
+            _ => Err(Refusal::WrongReceipt),
         }
     }
 
@@ -92,13 +110,7 @@ impl Log {
     fn check_free(&self, n: i32) -> Result<(), Refusal>
         ensures { refusal_of result ≡ first_failed (free_checks self.now.standing n) }
     {
-        let literal = Literal::of_number(n)?;
-        if self.standing.stands(literal) {
-            return Err(Refusal::Stands);
-        }
-        if self.standing.is_false(literal) {
-            return Err(Refusal::OppositeStands);
-        }
-        Ok(())
+        let literal = Literal::try_from(n)?;
+        self.standing.check_free(literal)
     }
 }

@@ -1,8 +1,9 @@
-ghost use Rattle.std.specs.Prelude.{◌≡◌, ◌<◌, true, [], ◌∷◌, ◌++◌, length, take};
+ghost use Rattle.std.specs.Prelude.{◌≡◌, ℕ, ◌-◌, ◌<◌, ◌≤◌, true, [], ◌∷◌, ◌++◌, length, slice_index_or, take};
+ghost use Rattle.runs.specs.declared.step.Step.{Step};
 ghost use Rattle.bounded.specs.Held.{held};
 ghost use Rattle.lists.specs.Lists.{distinct};
-ghost use Rattle.literals.specs.Settings.{nothing, plus};
-ghost use Rattle.runs.specs.Views.{literals_on, opened, standing as set-standing, step as stepped};
+ghost use Rattle.literals.specs.Settings.{free};
+ghost use Rattle.runs.specs.Views.{literals_on, opened, standing as set-standing};
 ghost use Rattle.session.specs.Logs.{Front, view_of};
 
 use crate::log::Log;
@@ -12,38 +13,25 @@ use runs::{State, Step};
 
 // How many steps are left at level k, from the first on: the levels of a trail rise.
 fn front(steps: &[Step], k: u8) -> usize
-    ensures { Front k steps.now result }
+    ensures few { result ≤ length steps.now }
+    ensures above { (i : ℕ) (x : Step) → result ≤ i → i < length steps.now → k < (slice_index_or steps.now i x).level }
+    ensures last { (x : Step) → 0 < result → (slice_index_or steps.now (result - 1) x).level ≤ k }
 {
-    let mut n = steps.len();
-    while n > 0 && steps[n - 1].level > k {
-        n -= 1;
+    match steps.iter().rposition(|step| step.level <= k) {
+        Some(last) => last + 1,
+        None => 0,
     }
-    n
-}
-
-// The set without the literals of the steps from place n on, the latest taken out first.
-fn set_of_first(steps: &[Step], set: Setting, n: usize) -> Setting
-    requires once { distinct (literals_on steps.now) ≡ true }
-    requires set { set ≡ set-standing steps.now }
-    ensures { result ≡ set-standing (take n steps.now) }
-{
-    let mut left = set;
-    for i in (n..steps.len()).rev() {
-        left = left.without(steps[i].literal);
-    }
-    left
 }
 
 impl Log {
     // Nothing stands, unsettled, at level 0.
     pub(crate) fn new() -> Log
-        ensures view { view_of result ≡ opened }
-        ensures set { result.standing ≡ nothing }
+        ensures { view_of result ≡ opened }
     {
         let none = Step {
             literal: Literal::FIRST,
             level: 0,
-            rule: 0,
+            rule: None,
         };
         Log {
             steps: Bounded::new(none),
@@ -53,37 +41,40 @@ impl Log {
         }
     }
 
-    // Puts a literal on the trail.
-    pub(crate) fn push(&mut self, literal: Literal, level: u8, rule: usize)
-        requires { length (held self.old.steps) < 64 }
-        ensures steps { held self.new.steps ≡ held self.old.steps ++ stepped literal level rule ∷ [] }
-        ensures set { self.new.standing ≡ plus self.old.standing literal }
+    // Puts a free literal on the trail.
+    pub(crate) fn push(&mut self, step: Step)
+        requires { free (set-standing (held self.old.steps)) step.literal ≡ true }
+        ensures steps { held self.new.steps ≡ held self.old.steps ++ step ∷ [] }
         ensures state { self.new.state ≡ self.old.state }
         ensures level { self.new.level ≡ self.old.level }
     {
-        let _ = self.steps.push(Step {
-            literal,
-            level,
-            rule,
-        });
-        self.standing = self.standing.with(literal);
+        // There is room: each literal has one of 64 switches to itself.
+        let _ = self.steps.push(step);
+        self.standing = self.standing.with(step.literal);
     }
 
     // Drops the steps above level k, and tells how many are left.
     pub(crate) fn cut(&mut self, k: u8) -> usize
-        requires once { distinct (literals_on (held self.old.steps)) ≡ true }
-        requires set { self.old.standing ≡ set-standing (held self.old.steps) }
         ensures front { Front k (held self.old.steps) result }
         ensures steps { held self.new.steps ≡ take result (held self.old.steps) }
-        ensures set { self.new.standing ≡ set-standing (held self.new.steps) }
         ensures state { self.new.state ≡ self.old.state }
         ensures level { self.new.level ≡ self.old.level }
     {
-        let steps = self.steps.as_slice();
-        let left = front(steps, k);
-        let set = set_of_first(steps, self.standing, left);
+        let left = front(self.steps.as_slice(), k);
+        self.standing = self.set_of_first(left);
         self.steps.truncate(left);
-        self.standing = set;
         left
+    }
+
+    // The set without the literals of the steps from place n on, the latest taken out first.
+    fn set_of_first(&self, n: usize) -> Setting
+        requires { n ≤ length (held self.now.steps) }
+        ensures { result ≡ set-standing (take n (held self.now.steps)) }
+    {
+        let mut set = self.standing;
+        for step in self.steps.as_slice()[n..].iter().rev() {
+            set = set.without(step.literal);
+        }
+        set
     }
 }

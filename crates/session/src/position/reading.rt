@@ -1,27 +1,24 @@
-ghost use Rattle.std.specs.Prelude.{◌≡◌, ◌≤◌};
+ghost use Rattle.std.specs.Prelude.{◌≡◌, IfOk, if◌then◌else◌, Some, None};
+ghost use Rattle.literals.specs.Literals.{no_switch};
+ghost use Rattle.literals.specs.Refusals.{refusal_of};
 ghost use Rattle.session.specs.Positions.{position};
 
 use crate::position::Position;
-use literals::{Literal, Setting};
+use literals::{Literal, Refusal, Setting};
 
 impl Position {
-    // What the set says of a switch from 1 to 64.
-    pub(crate) fn of(set: &Setting, switch: u8) -> Position
-        requires low { 1 ≤ switch }
-        requires high { switch ≤ 64 }
-        ensures { result ≡ position set.now switch }
+    // What the set says of a switch. Refused by 1.
+    pub(crate) fn of(set: &Setting, switch: u8) -> Result<Position, Refusal>
+        ensures refused { refusal_of result ≡ (if no_switch switch then Some Refusal.OutOfRange else None) }
+        ensures position { IfOk result (λ p. p ≡ position set.now switch) }
     {
-        match Literal::of(switch, true) {
-            Ok(on) => {
-                if set.stands(on) {
-                    Position::On
-                } else if set.is_false(on) {
-                    Position::Off
-                } else {
-                    Position::Free
-                }
-            }
-            Err(_) => Position::Free,
+        let on = Literal::of(switch, true)?;
+        if set.stands(on) {
+            Ok(Position::On)
+        } else if set.is_false(on) {
+            Ok(Position::Off)
+        } else {
+            Ok(Position::Free)
         }
     }
 }

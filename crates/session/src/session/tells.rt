@@ -7,7 +7,7 @@ ghost use Rattle.rules.specs.Scans.{Numbered};
 ghost use Rattle.runs.specs.Reasons.{Explains, why_checks};
 ghost use Rattle.runs.specs.Views.{standing as set-standing};
 ghost use Rattle.session.specs.Positions.{no_place, position};
-ghost use Rattle.session.specs.Sessions.{seen, Sound};
+ghost use Rattle.session.specs.Sessions.{seen};
 
 use crate::position::Position;
 use crate::session::Session;
@@ -49,14 +49,12 @@ impl<S: Shelf> Session<S> {
 
     // The set of the literals that stand.
     pub fn standing(&self) -> &Setting
-        requires sound { Sound S.Shelf.sound S.Shelf.rules S.Shelf.told self.now }
         ensures { result.now ≡ set-standing (seen self.now).trail }
     {
         &self.log.standing
     }
 
     pub fn free_count(&self) -> u32
-        requires sound { Sound S.Shelf.sound S.Shelf.rules S.Shelf.told self.now }
         ensures { result ≡ free_count (set-standing (seen self.now).trail) }
     {
         self.standing().free_count()
@@ -64,20 +62,16 @@ impl<S: Shelf> Session<S> {
 
     // On, off or free. Refused by 1.
     pub fn switch(&self, switch: u32) -> Result<Position, Refusal>
-        requires sound { Sound S.Shelf.sound S.Shelf.rules S.Shelf.told self.now }
         ensures refused { refusal_of result ≡ (if no_switch switch then Some Refusal.OutOfRange else None) }
         ensures position { IfOk result (λ p. p ≡ position (set-standing (seen self.now).trail) switch) }
     {
-        if switch < 1 || switch > 64 {
-            return Err(Refusal::OutOfRange);
-        }
-        Ok(Position::of(self.standing(), switch as u8))
+        let switch = u8::try_from(switch).map_err(|_| Refusal::OutOfRange)?;
+        Position::of(self.standing(), switch)
     }
 
-    // Why a switch stands: the rule that locked it, 0 where it was chosen, and the chosen switches that it is reached from. Refused by 1, or by
+    // Why a switch stands: the rule that locked it, none where it was chosen, and the chosen switches that it is reached from. Refused by 1, or by
     // 29 where it is free.
     pub fn why(&self, switch: u32) -> Result<Why, Refusal>
-        requires sound { Sound S.Shelf.sound S.Shelf.rules S.Shelf.told self.now }
         ensures refused { refusal_of result ≡ first_failed (why_checks (seen self.now).trail switch) }
         ensures explains { IfOk result (λ w. Explains (S.Shelf.rules self.now.shelf) (seen self.now).trail switch w.rule w.word) }
     {

@@ -11,5 +11,5 @@ returns g c =
           c.level.ensures c.level-2.ensures c.trail_len.ensures c.trail_len-2.ensures
           (within_by c.contains-there.result _ _ _ _ c.standing-2.ensures c.standing.ensures c.contains-there.ensures)
           (within_by c.contains-back.result _ _ _ _ c.standing-4.ensures c.standing-3.ensures c.contains-back.ensures);
-      agree = reached_agree _ _ v w c.laws.ensures.laws c.laws-2.ensures.laws c.laws-2.ensures.lawful c.requires.first.reached c.requires.second.reached;
+      agree = reached_agree _ _ v w c.laws.ensures.laws c.laws-2.ensures.laws c.laws-2.ensures.lawful c.args.first.now.reached c.args.second.now.reached;
     }

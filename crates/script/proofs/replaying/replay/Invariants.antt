@@ -1,14 +1,12 @@
 use Rattle.std.proofs.Common.{◌≡◌, ◌≤◌, length, take, vec_items, vec_len, vec_capacity}
 use Rattle.session.specs.Sessions.{seen}
-use Rattle.script.specs.Players.{PlayerSound}
 use Rattle.script.proofs.Playing.{SoFar}
 use Rattle.script.proofs.replaying.replay.Given as goal
 
 abbrev pub invariant-loop-request : goal.invariant-loop-request
 invariant-loop-request g l =
     let m = g.S.Shelf in
-    PlayerSound m.sound m.rules m.told l.player
-    × (m.rules l.player.session.shelf ≡ m.rules l.initial.player.session.shelf)
+    (m.rules l.player.session.shelf ≡ m.rules l.initial.player.session.shelf)
     × SoFar (m.rules l.initial.player.session.shelf) (take l.request-index l.requests) (vec_items l.answers) (seen l.player.session)
     × (vec_len l.answers ≡ l.request-index)
     × (length l.requests ≤ vec_capacity l.answers)

@@ -1,25 +1,23 @@
-use Rattle.std.proofs.Common.{Err, refl, ap, ◌∙◌}
-use Rattle.std.proofs.lemmas.Result.{err_from_is_err_and}
-use Rattle.session.proofs.Ties.{refused_done, same_then, back_done, next}
+use Rattle.session.specs.Logs.{view_of}
+use Rattle.session.specs.Sessions.{seen}
+use Rattle.session.proofs.Ties.{refused_done, cut_to, dropped, back_done, next}
 use Rattle.session.proofs.session.Session.back.Goals as goal
 
-pub returns-in_err-admit : goal.returns-in_err-admit
-returns-in_err-admit g c =
-    let p = err_from_is_err_and c.from_residual.result c.from_residual.ensures.1 in
-    record {
-      sound = c.requires.sound;
-      rules = refl;
-      does = refused_done _ _ _ c.from_residual.result _ (p.1 ∙ ap Err p.2) c.in_err-admit.ensures;
-      same = same_then c.from_residual.result _ _ refl;
-    }
+pub returns-in_err-admit-clause-does : goal.returns-in_err-admit-clause-does
+returns-in_err-admit-clause-does g c = refused_done _ _ _ c.from_residual.result _ c.from_residual.ensures.1 c.in_err-admit.ensures
 
-pub returns : goal.returns
-returns g c =
+pub invariant_of-self : goal.invariant_of-self
+invariant_of-self g c =
+    let x = c.args.self.now in
     let drop = c.drop_above.ensures in
-    let d = back_done _ _ _ c.args.k c.in_ok-admit.ensures drop.dropped.view in
-    record {
-      sound = next _ _ _ _ c.requires.sound _ _ _ _ _ _ d drop.rules drop.dropped.shelf drop.dropped.left drop.dropped.set;
-      rules = drop.rules;
-      does = d;
-      same = tt;
-    }
+    let w = view_of c.drop_above.new.log in
+    let e = dropped x.log c.drop_above.new.log c.args.k (cut_to _ (seen x) x.reached c.args.k _ drop.cut) drop.state drop.level in
+    record { told = drop.told; reached = next _ (seen x) x.reached _ w _ _ (back_done _ (seen x) w c.args.k c.in_ok-admit.ensures e) drop.rules }
+
+pub returns-clause-does : goal.returns-clause-does
+returns-clause-does g c =
+    let x = c.args.self.now in
+    let drop = c.drop_above.ensures in
+    let w = view_of c.drop_above.new.log in
+    let e = dropped x.log c.drop_above.new.log c.args.k (cut_to _ (seen x) x.reached c.args.k _ drop.cut) drop.state drop.level in
+    back_done _ (seen x) w c.args.k c.in_ok-admit.ensures e

@@ -1,18 +1,23 @@
-use Rattle.std.proofs.Common.{refl}
-use Rattle.session.proofs.Ties.{refused_by, back_from_done, next}
+use Rattle.session.specs.Logs.{view_of}
+use Rattle.session.specs.Sessions.{seen}
+use Rattle.session.proofs.Ties.{refused_spent, cut_to, dropped, back_from_done, next}
 use Rattle.session.proofs.session.Session.back_from_clash.Goals as goal
 
-pub returns-in-Err : goal.returns-in-Err
-returns-in-Err g c = record { sound = c.requires.sound; rules = refl; does = refused_by _ _ _ c.in-Err.refusal c.in-Err.ensures; same = refl; receipt = refl }
+pub returns-in_err-spend-clause-does : goal.returns-in_err-spend-clause-does
+returns-in_err-spend-clause-does g c = refused_spent _ _ _ c.from_residual.result _ c.from_residual.ensures.1 c.in_err-spend.ensures.0
 
-pub returns : goal.returns
-returns g c =
+pub invariant_of-self : goal.invariant_of-self
+invariant_of-self g c =
+    let x = c.args.self.now in
     let drop = c.drop_above.ensures in
-    let d = back_from_done _ _ _ c.args.receipt.rule c.args.receipt.level c.args.k c.in_default.ensures drop.dropped.view in
-    record {
-      sound = next _ _ _ _ c.requires.sound _ _ _ _ _ _ d drop.rules drop.dropped.shelf drop.dropped.left drop.dropped.set;
-      rules = drop.rules;
-      does = d;
-      same = tt;
-      receipt = tt;
-    }
+    let w = view_of c.drop_above.new.log in
+    let e = dropped x.log c.drop_above.new.log c.args.k (cut_to _ (seen x) x.reached c.args.k _ drop.cut) drop.state drop.level in
+    record { told = drop.told; reached = next _ (seen x) x.reached _ w _ _ (back_from_done _ (seen x) w c.args.receipt.clash c.args.k c.in_ok-spend.ensures e) drop.rules }
+
+pub returns-clause-does : goal.returns-clause-does
+returns-clause-does g c =
+    let x = c.args.self.now in
+    let drop = c.drop_above.ensures in
+    let w = view_of c.drop_above.new.log in
+    let e = dropped x.log c.drop_above.new.log c.args.k (cut_to _ (seen x) x.reached c.args.k _ drop.cut) drop.state drop.level in
+    back_from_done _ (seen x) w c.args.receipt.clash c.args.k c.in_ok-spend.ensures e

@@ -1,12 +1,12 @@
 use Rattle.std.proofs.Common.{refl}
-use Rattle.session.proofs.Ties.{refused_by, close_done, next}
+use Rattle.session.specs.Sessions.{seen}
+use Rattle.session.proofs.Ties.{refused_spent, close_done, next}
 use Rattle.session.proofs.session.Session.close.Goals as goal
 
-pub returns-in-Err : goal.returns-in-Err
-returns-in-Err g c = record { sound = c.requires.sound; rules = refl; does = refused_by _ _ _ c.in-Err.refusal c.in-Err.ensures; same = refl; receipt = refl }
+pub returns-in_err-spend-clause-does : goal.returns-in_err-spend-clause-does
+returns-in_err-spend-clause-does g c = refused_spent _ _ _ c.from_residual.result _ c.from_residual.ensures.1 c.in_err-spend.ensures.0
 
-pub returns : goal.returns
-returns g c =
-    let t = c.requires.sound in
-    let d = close_done _ _ c.args.receipt.rule c.args.receipt.level c.in_default.ensures in
-    record { sound = next _ _ _ _ t _ _ _ _ _ _ d refl t.shelf t.told t.set; rules = refl; does = d; same = tt; receipt = tt }
+pub invariant_of-self : goal.invariant_of-self
+invariant_of-self g c =
+    let x = c.args.self.now in
+    ((x.log.set, (x.log.once, tt)), (x.told, (next _ (seen x) x.reached _ _ _ _ (close_done _ (seen x) c.args.receipt.clash c.in_ok-spend.ensures) refl, tt)))

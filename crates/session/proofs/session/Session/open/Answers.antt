@@ -1,12 +1,12 @@
-use Rattle.session.proofs.Ties.{opened_tied, none_left}
+use Rattle.session.specs.Logs.{view_of}
+use Rattle.session.proofs.Ties.{opened_reached, none_told}
 use Rattle.session.proofs.session.Session.open.Goals as goal
 
-pub returns : goal.returns
-returns g c =
+pub invariant_of-result : goal.invariant_of-result
+invariant_of-result g c =
     let back = c.take_back.ensures in
+    let v = view_of c.new.result in
     record {
-      sound = opened_tied _ _ _ c.new.result back.sound (none_left _ c.take_back.result _ _ back.refused back.told) c.new.ensures.view c.new.ensures.set;
-      rules = back.rules;
-      view = c.new.ensures.view;
-      laws = c.laws_over_runs.ensures.laws;
+      told = none_told _ c.take_back.result _ _ v c.new.ensures back.refused back.told;
+      reached = opened_reached _ v c.new.ensures;
     }
