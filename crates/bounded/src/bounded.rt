@@ -5,7 +5,7 @@ mod reading;
 
 use std::alloc::AllocError;
 
-// At most N elements: the first `len` of `items`.
+// At most N elements: the first `len` of `items`. Neither `==` nor a debug text is derived, which would show the places not in use.
 #[derive(Copy)]
 pub struct Bounded<T, const N: usize> {
     items: [T; N],
@@ -13,7 +13,7 @@ pub struct Bounded<T, const N: usize> {
     ghost within: { (length items ≡ N) × (len ≤ N) },
 }
 
-// A copy takes no memory.
+// Written out, since none is derived for a struct with a ghost field. A copy takes no memory.
 impl<T: Copy, const N: usize> Clone for Bounded<T, N> {
     ghost is_clone = { λ b c. c ≡ b };
 

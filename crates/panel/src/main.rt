@@ -4,10 +4,11 @@
 // the standard input. A literal is given by its number.
 mod sets;
 
-use anyhow::anyhow;
+use anyhow::Context;
 use linear::Linear;
 use literals::Setting;
-use rules::{Verdict, scan};
+use rules::scan;
+use sets::{Trouble, read_sets};
 use std::io::Read;
 use std::{env, io};
 use supply::supply_limit;
@@ -27,35 +28,24 @@ fn input(rt: &HostRuntime) -> io::Result<String> {
 
 fn tell(rt: &HostRuntime, rule: Linear, set: &Setting) -> io::Result<()> {
     let slack = rule.slack(set);
-    match scan(&[rule], set) {
-        Verdict::Quiet => println!(rt; "slack {slack}: quiet"),
-        Verdict::Broken(r) => println!(rt; "slack {slack}: rule {r} is broken"),
-        Verdict::Forced(r, l) => {
-            let number = l.number();
-            println!(rt; "slack {slack}: rule {r} forces {number}")
-        }
-    }
+    let verdict = scan(&[rule], set);
+    println!(rt; "slack {slack}: {verdict}")
 }
 
 fn run(rt: &HostRuntime) -> anyhow::Result<()> {
-    let Ok(rule) = supply_limit() else {
-        return Err(anyhow!("the supply limit is refused"));
-    };
+    let rule = supply_limit().context("the supply limit is refused")?;
     let text = input(rt)?;
-    match sets::read_sets(rt.alloc(), text.as_str())? {
-        Ok(given) => {
-            for set in given.iter() {
+    match read_sets(rt.alloc(), text.as_str()) {
+        Ok(sets) => {
+            for set in &sets {
                 tell(rt, rule, set)?;
             }
-            Ok(())
         }
-        Err(trouble) => {
-            let line = trouble.line;
-            let number = trouble.refusal.number();
-            println!(rt; "line {line}: refused {number}")?;
-            Ok(())
-        }
+        // What was handed in is at fault, and not the program.
+        Err(trouble @ Trouble::Refused { .. }) => println!(rt; "{trouble}")?,
+        Err(trouble) => return Err(trouble.into()),
     }
+    Ok(())
 }
 
 fn main(rt: HostRuntime) -> anyhow::Result<()> {

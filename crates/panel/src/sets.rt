@@ -1,52 +1,58 @@
 // Sets of literals, one to a line of text.
 use lists::collect;
 use literals::{Refusal, Setting};
-use std::alloc::{AllocError, Global};
+use std::alloc::{AllocError, AllocFailed, Global};
+use std::error::Error;
+use std::fmt;
 
-// Where a line is refused, and why.
-#[derive(Drop)]
-pub struct Trouble {
-    pub line: usize,
-    pub refusal: Refusal,
+// Why the lines of a text give no sets.
+#[derive(Clone, Copy, Debug, PartialEq, Eq)]
+pub enum Trouble {
+    // A line is refused.
+    Refused { line: usize, refusal: Refusal },
+    OutOfMemory,
+}
+
+impl fmt::Display for Trouble {
+    fn fmt<W: fmt::Write>(&self, f: &mut fmt::Formatter<W>) -> fmt::Result {
+        match self {
+            Trouble::Refused { line, refusal } => {
+                write!(f, "line {line}: refused {}", u8::from(*refusal))
+            }
+            Trouble::OutOfMemory => write!(f, "{AllocError}"),
+        }
+    }
+}
+
+impl Error for Trouble {}
+
+impl<T: Drop> From<AllocFailed<T>> for Trouble {
+    fn from(_e: AllocFailed<T>) -> Trouble {
+        Trouble::OutOfMemory
+    }
 }
 
 // A word is the number of a literal; what is too large for one is no literal either.
 fn read_number(word: &str) -> Result<i16, Refusal> {
-    match word.parse::<i64>() {
-        Ok(n) => i16::try_from(n).or(Err(Refusal::OutOfRange)),
-        Err(_) => Err(Refusal::NotNumber),
-    }
+    let number = word.parse::<i64>().map_err(|_| Refusal::NotNumber)?;
+    i16::try_from(number).map_err(|_| Refusal::OutOfRange)
 }
 
-fn read_numbers(heap: Global, line: &str) -> Result<Result<Vec<i16>, Refusal>, AllocError> {
+// The set of one line: all its words are read before any is taken for a literal.
+fn read_set(heap: Global, line: usize, text: &str) -> Result<Setting, Trouble> {
+    let refused = |refusal| Trouble::Refused { line, refusal };
     let mut numbers = Vec::new(heap);
-    for word in line.split_whitespace() {
-        match read_number(word) {
-            Ok(n) => numbers.push(n)?,
-            Err(refusal) => return Ok(Err(refusal)),
-        }
+    for word in text.split_whitespace() {
+        numbers.push(read_number(word).map_err(refused)?)?;
     }
-    Ok(Ok(numbers))
-}
-
-fn read_set(heap: Global, line: &str) -> Result<Result<Setting, Refusal>, AllocError> {
-    match read_numbers(heap, line)? {
-        Ok(numbers) => Ok(collect(numbers.as_slice())),
-        Err(refusal) => Ok(Err(refusal)),
-    }
+    collect(numbers.as_slice()).map_err(refused)
 }
 
 // The set of each line, or the first line that is refused.
-pub fn read_sets(heap: Global, text: &str) -> Result<Result<Vec<Setting>, Trouble>, AllocError> {
+pub fn read_sets(heap: Global, text: &str) -> Result<Vec<Setting>, Trouble> {
     let mut sets = Vec::new(heap);
     for (i, line) in text.lines().enumerate() {
-        match read_set(heap, line)? {
-            Ok(set) => sets.push(set)?,
-            Err(refusal) => return Ok(Err(Trouble {
-                line: i + 1,
-                refusal,
-            })),
-        }
+        sets.push(read_set(heap, i + 1, line)?)?;
     }
-    Ok(Ok(sets))
+    Ok(sets)
 }

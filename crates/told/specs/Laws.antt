@@ -6,5 +6,5 @@ use Rattle.lists.specs.Lists.{distinct}
 use Rattle.told.specs.declared.told.Told.{Told}
 use Rattle.told.specs.Lists.{told_of}
 
-pub told_once : (t : Told) → distinct (told_of t) ≡ true
-told_once t = ap distinct (sym (map-id (told_of t))) ∙ t.trail.once
+pub told_distinct : (t : Told) → distinct (told_of t) ≡ true
+told_distinct t = ap distinct (sym (map-id (told_of t))) ∙ t.trail.once

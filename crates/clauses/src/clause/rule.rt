@@ -13,12 +13,7 @@ use rules::Rule;
 fn first_open(literals: &[Literal], set: &Setting) -> Option<Literal>
     ensures { MatchOption result (all_false set.now literals.now ≡ true) (λ l. FirstOpen set.now literals.now l) }
 {
-    for l in literals {
-        if !set.is_false(*l) {
-            return Some(*l);
-        }
-    }
-    None
+    literals.iter().copied().find(|l| !set.is_false(*l))
 }
 
 impl Rule for Clause {
@@ -51,9 +46,6 @@ impl Rule for Clause {
     }
 
     fn first_forced(&self, set: &Setting) -> Option<Literal> {
-        match first_open(self.literals(), set) {
-            Some(l) => { if self.forces(set, l) { Some(l) } else { None } }
-            None => None,
-        }
+        first_open(self.literals(), set).filter(|l| self.forces(set, *l))
     }
 }

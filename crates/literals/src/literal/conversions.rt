@@ -13,6 +13,7 @@ impl TryFrom<i16> for Literal {
     ghost try_from_gives = { Reads };
 
     fn try_from(n: i16) -> Result<Literal, Refusal> {
+        // In these ranges a cast loses nothing, and needs no error of its own.
         match n {
             1..=64 => Ok(Literal {
                 switch: n as u8,

@@ -40,6 +40,7 @@ impl Literal {
     pub fn opposite(self) -> Literal
         ensures { result ≡ opposite self }
     {
+        // A literal of a struct with a ghost field takes no `..self`.
         Literal {
             switch: self.switch,
             on: !self.on,

@@ -1,15 +1,19 @@
-use Rattle.std.proofs.Common.{sym, ap, ◌∙◌, take_all}
+use Rattle.std.proofs.Common.{◌≡◌, true, not, MatchOption, Option, sym, ◌∙◌, subst, rules}
+use Rattle.std.proofs.lemmas.Iterator.{YieldsList-from_slice}
+use Rattle.std.proofs.lemmas.Iterator.Adapters.{option_map_id}
+use Rattle.std.proofs.lemmas.Iterator.Consumers.{YieldsList-from_copied}
+use Rattle.std.proofs.lemmas.Iterator.Search.{find_from_yields_List}
+use Rattle.literals.specs.declared.literal.Literal.{Literal}
+use Rattle.literals.specs.Literals.{opposite}
+use Rattle.literals.specs.Settings.{stands}
 use Rattle.clauses.specs.Clauses.{all_false}
-use Rattle.clauses.specs.Openness.{false_more, first_open}
+use Rattle.clauses.specs.Openings.{FirstOpen}
+use Rattle.clauses.proofs.Forcing.{found_open}
 use Rattle.clauses.proofs.clause.rule.first_open.Goals as goal
 
-pub returns-then-not-is_false : goal.returns-then-not-is_false
-returns-then-not-is_false c =
-    first_open c.args.set.now c.args.literals.now c.loop-l.l-index c.l-item.result c.loop-l-test.true c.l-item.is (sym c.if-not-is_false.ensures) c.loop-l.invariant
-
-pub loop-l-preserved : goal.loop-l-preserved
-loop-l-preserved c =
-    false_more c.args.set.now c.args.literals.now c.loop-l.l-index c.l-item.result c.loop-l-test.true c.l-item.is (sym c.if-not-is_false.ensures) c.loop-l.invariant
-
 pub returns : goal.returns
-returns c = ap (all_false c.args.set.now) (sym (take_all _ _ c.loop-l-test.false)) ∙ c.loop-l.invariant
+returns c =
+    let s = c.args.set.now in
+    let ls = c.args.literals.now in
+    let found = find_from_yields_List (λ (l : Literal). not (stands s (opposite l))) _ _ _ c.find.ensures.ran (YieldsList-from_copied (YieldsList-from_slice ls cc)) (λ x b q k. search rules) in
+    subst (λ (o : Option Literal). MatchOption o (all_false s ls ≡ true) (FirstOpen s ls)) (sym found ∙ option_map_id c.find.result) (found_open s ls)

@@ -11,7 +11,7 @@ invariant_of-self g c =
     let ok = c.in_ok-check_free.ensures in
     record {
       agrees = joined_set lit (held t.items) after c.args.x c.literal-l.result t.set c.literal-l.ensures t.agrees t.once c.push.result p.room p.pushed ok c.with-self.result c.with-self.ensures.words;
-      once = joined_once lit (held t.items) after c.args.x c.literal-l.result t.set c.literal-l.ensures t.agrees t.once c.push.result p.room p.pushed ok;
+      once = joined_once lit (held t.items) after c.args.x c.literal-l.result t.set c.literal-l.ensures t.agrees t.once c.push.result p.room p.pushed ok c.with-self.result c.with-self.ensures.words;
     }
 
 pub returns-clause-pushed : goal.returns-clause-pushed
