@@ -1,5 +1,5 @@
 // What a session is asked to do. A request that wants a receipt takes the one that is out.
-#[derive(Clone, Copy)]
+#[derive(Clone, Copy, Debug, PartialEq, Eq, Hash)]
 pub enum Request {
     Settle,
     // A literal, by its number.

@@ -72,12 +72,6 @@ module _ (rules : List Meaning) (v : View) (some : ∥ Reached rules v ∥₁) w
       ∥∥₁_elim some le_prop
       (λ r. let k = run_keeps rules r.run in let a = count_free k.chosen (chosen_once rules k.trail) in let b = k.level in omega arith)
 
-  -- what is left at level k is the front that the log cuts to
-  pub cut_to : (k : ℕ) (u : List Step) → Cut k v.trail u → u ≡ up_to k v.trail
-  cut_to k u c =
-      c.is
-      ∙ ∥∥₁_elim some (hlevel props) (λ r. front_up_to rules k c.left (run_keeps rules r.run).trail c.front.few c.front.all c.front.last)
-
   -- the view after a call
   pub next : (rules' : List Meaning) (w : View) (c : Call) (a : Answered) → Does rules v c a w → rules' ≡ rules → ∥ Reached rules' w ∥₁
   next rules' w c a d e =
@@ -96,9 +90,12 @@ cut_told E t u k ls after r c told q h =
 
 -- ---- what is done
 
--- the log after going back
-pub dropped : (g h : Log) (k : ℕ) → held h.steps ≡ up_to k (held g.steps) → h.state ≡ Settled → h.level ≡ k → view_of h ≡ record { state = Settled; level = k; trail = up_to k (held g.steps) }
-dropped g h k e s l = cc
+-- the log after going back: what is left at level k is the front that it cuts to
+pub dropped : (rules : List Meaning) (g h : Log) (k : ℕ) → ∥ Reached rules (view_of g) ∥₁ → Cut k (held g.steps) (held h.steps) → h.state ≡ Settled → h.level ≡ k
+    → view_of h ≡ record { state = Settled; level = k; trail = up_to k (held g.steps) }
+dropped rules g h k some c state level =
+    let left : held h.steps ≡ up_to k (held g.steps) = c.is ∙ ∥∥₁_elim some (hlevel props) (λ r. front_up_to rules k c.left (run_keeps rules r.run).trail c.front.few c.front.all c.front.last) in
+    cc
 
 pub back_done : (rules : List Meaning) (v w : View) (k : ℕ) → None ≡ first_failed (checks v (Back k)) → w ≡ record { state = Settled; level = k; trail = up_to k v.trail } → Does rules v (Back k) (Ok reply.Done) w
 back_done rules v w k p e = does (sym p) (record { answer = refl; view = e })
@@ -117,9 +114,8 @@ choose_done rules v l n u p e s =
     does (sym p) (record { literal = l; named = e; answer = refl; view = ap (λ (t : List Step). record { state = Unsettled; level = v.level + 1; trail = t }) s })
 
 -- a choice that is refused for what it names, or taken
-pub choose_outside : (v : View) (m n : ℤ) (e : Refusal) → m ≡ n → Some e ≡ cond (no_literal m) (Some OutOfRange) None → Some e ≡ first_failed (checks v (Choose n))
-choose_outside v m n e p q =
-    failed_before (input_checks (Choose n)) (state_checks v (Choose n)) e (subst (λ (k : ℤ). Some e ≡ cond (no_literal k) (Some OutOfRange) None) p q)
+pub choose_outside : (v : View) (n : ℤ) (e : Refusal) → Some e ≡ cond (no_literal n) (Some OutOfRange) None → Some e ≡ first_failed (checks v (Choose n))
+choose_outside v n e q = failed_before (input_checks (Choose n)) (state_checks v (Choose n)) e q
 
 pub choose_free : (v : View) (l : Literal) (n : ℤ) → number l ≡ n → None ≡ first_failed (checks v (Choose n)) → free (standing v.trail) l ≡ true
 choose_free v l n e p = (choosable v l (subst (λ (k : ℤ). None ≡ first_failed (checks v (Choose k))) (sym e) p)).free

@@ -22,7 +22,6 @@ impl<S: Shelf> Session<S> {
         ensures view { seen result ≡ opened }
         ensures laws { Laws (S.Shelf.rules shelf) }
     {
-        laws_over_runs(&shelf);
         let _ = shelf.take_back(0);
         Session {
             shelf,

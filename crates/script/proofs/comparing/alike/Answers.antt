@@ -1,15 +1,23 @@
+use Rattle.std.proofs.Common.{sym, ◌∙◌}
 use Rattle.session.specs.Sessions.{seen}
-use Rattle.script.proofs.Likeness.{alike_decides, reached_agree, within_by}
+use Rattle.script.proofs.Likeness.{alike_by, reached_agree}
 use Rattle.script.proofs.comparing.alike.Goals as goal
 
-pub returns : goal.returns
-returns g c =
-    let v = seen c.args.first.now in
-    let w = seen c.args.second.now in
-    record {
-      alike = alike_decides v w c.level.result c.level-2.result c.trail_len.result c.trail_len-2.result c.contains-there.result c.contains-back.result
-          c.level.ensures c.level-2.ensures c.trail_len.ensures c.trail_len-2.ensures
-          (within_by c.contains-there.result _ _ _ _ c.standing-2.ensures c.standing.ensures c.contains-there.ensures)
-          (within_by c.contains-back.result _ _ _ _ c.standing-4.ensures c.standing-3.ensures c.contains-back.ensures);
-      agree = reached_agree _ _ v w c.laws.ensures.laws c.laws-2.ensures.laws c.laws-2.ensures.lawful c.args.first.now.reached c.args.second.now.reached;
-    }
+pub returns-then-level-clause-alike : goal.returns-then-level-clause-alike
+returns-then-level-clause-alike g c =
+    let x = c.args.first.now in
+    let y = c.args.second.now in
+    alike_by (seen x) (seen y) x.log.once y.log.once c.standing.result.now c.standing-then-level.result.now c.eq.result
+    (sym c.level.ensures ∙ c.if-level.true ∙ c.level-2.ensures) c.standing.ensures c.standing-then-level.ensures c.eq.ensures
+
+pub returns-then-level-clause-agree : goal.returns-then-level-clause-agree
+returns-then-level-clause-agree g c =
+    let x = c.args.first.now in
+    let y = c.args.second.now in
+    reached_agree _ _ (seen x) (seen y) (g.met.A.Shelf.lawful x.shelf) (g.met.B.Shelf.lawful y.shelf) x.reached y.reached
+
+pub returns-else-level-clause-agree : goal.returns-else-level-clause-agree
+returns-else-level-clause-agree g c =
+    let x = c.args.first.now in
+    let y = c.args.second.now in
+    reached_agree _ _ (seen x) (seen y) (g.met.A.Shelf.lawful x.shelf) (g.met.B.Shelf.lawful y.shelf) x.reached y.reached

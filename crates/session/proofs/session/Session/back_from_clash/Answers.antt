@@ -1,6 +1,5 @@
-use Rattle.session.specs.Logs.{view_of}
 use Rattle.session.specs.Sessions.{seen}
-use Rattle.session.proofs.Ties.{refused_spent, cut_to, dropped, back_from_done, next}
+use Rattle.session.proofs.Ties.{refused_spent, dropped, back_from_done, next}
 use Rattle.session.proofs.session.Session.back_from_clash.Goals as goal
 
 pub returns-in_err-spend-clause-does : goal.returns-in_err-spend-clause-does
@@ -10,14 +9,11 @@ pub invariant_of-self : goal.invariant_of-self
 invariant_of-self g c =
     let x = c.args.self.now in
     let drop = c.drop_above.ensures in
-    let w = view_of c.drop_above.new.log in
-    let e = dropped x.log c.drop_above.new.log c.args.k (cut_to _ (seen x) x.reached c.args.k _ drop.cut) drop.state drop.level in
-    record { told = drop.told; reached = next _ (seen x) x.reached _ w _ _ (back_from_done _ (seen x) w c.args.receipt.clash c.args.k c.in_ok-spend.ensures e) drop.rules }
+    let e = dropped _ x.log c.drop_above.new.log c.args.k x.reached drop.cut drop.state drop.level in
+    record { told = drop.told; reached = next _ (seen x) x.reached _ _ _ _ (back_from_done _ (seen x) _ c.args.receipt.clash c.args.k c.in_ok-spend.ensures e) drop.rules }
 
 pub returns-clause-does : goal.returns-clause-does
 returns-clause-does g c =
     let x = c.args.self.now in
     let drop = c.drop_above.ensures in
-    let w = view_of c.drop_above.new.log in
-    let e = dropped x.log c.drop_above.new.log c.args.k (cut_to _ (seen x) x.reached c.args.k _ drop.cut) drop.state drop.level in
-    back_from_done _ (seen x) w c.args.receipt.clash c.args.k c.in_ok-spend.ensures e
+    back_from_done _ (seen x) _ c.args.receipt.clash c.args.k c.in_ok-spend.ensures (dropped _ x.log c.drop_above.new.log c.args.k x.reached drop.cut drop.state drop.level)
