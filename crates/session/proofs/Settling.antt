@@ -1,14 +1,12 @@
 -- What the turns of settling keep.
 use Rattle.std.proofs.Common.{◌≡◌, ℕ, ◌-◌, ◌<◌, true, List, [], ◌∷◌, ◌++◌, length, ℤ, Some, None, Result, sym, refl, ap, ◌∙◌, subst, arith, MatchResult}
 use Rattle.std.proofs.lemmas.List.{length_push}
-use Rattle.bounded.specs.Held.{held}
+use Rattle.told.specs.Trails.{items_of}
 use Rattle.literals.specs.declared.literal.Literal.{Literal}
 use Rattle.literals.specs.declared.refusal.Refusal.{Refusal}
-use Rattle.literals.specs.declared.setting.Setting.{Setting}
 use Rattle.literals.specs.Literals.{number}
 use Rattle.literals.specs.Refusals.{first_failed, refusal_of}
-use Rattle.literals.specs.Settings.{free, plus, set_of}
-use Rattle.literals.proofs.Freedom.{free_count-plus}
+use Rattle.literals.specs.Settings.{free, set_of}
 use Rattle.lists.specs.Lists.{distinct}
 use Rattle.rules.specs.declared.Verdict.{Verdict}
 use Rattle.rules.specs.declared.Verdict.TheVariants.{Quiet, Broken, Forced}
@@ -18,28 +16,9 @@ use Rattle.told.proofs.Telling.{tells_free}
 use Rattle.runs.specs.declared.step.Step.{Step}
 use Rattle.runs.specs.Views.{literals_on, standing, step}
 use Rattle.runs.specs.Calls.{Settles, quiet, broken, locks}
-use Rattle.runs.proofs.Trails.{literals-push, standing-push, once_more, count_once}
+use Rattle.runs.proofs.Trails.{literals-push, count_once}
 use Rattle.session.specs.declared.log.Log.{Log}
 use Rattle.session.specs.Logs.{Ran}
-
--- ---- one literal more
-
-module _ (t : List Step) (x : Step) (once : distinct (literals_on t) ≡ true) (f : free (standing t) x.literal ≡ true) where
-  roomy : length t < 64
-  roomy =
-      let a = count_once t once in
-      let b = free_count-plus (standing t) x.literal f in
-      omega arith
-
-  module _ (u : List Step) (items : length t < 64 → u ≡ t ++ x ∷ []) where
-    pub put_steps : u ≡ t ++ x ∷ []
-    put_steps = items roomy
-
-    pub put_set : (s s' : Setting) → s ≡ standing t → s' ≡ plus s x.literal → s' ≡ standing u
-    put_set s s' e p = p ∙ ap (λ (y : Setting). plus y x.literal) e ∙ sym (standing-push t x) ∙ ap standing (sym put_steps)
-
-    pub put_once : distinct (literals_on u) ≡ true
-    put_once = ap (λ (y : List Step). distinct (literals_on y)) put_steps ∙ once_more t x f once
 
 -- what a shelf has that was told the literals of the trail
 pub told_free : (t : List Step) (ls : List Literal) (l : Literal) → ls ≡ literals_on t → free (standing t) l ≡ true → free (set_of ls) l ≡ true
@@ -54,17 +33,17 @@ put_told E t u x ls after n r e f is q c st =
 
 -- g is the log where settling began, h the log now: what settles from now on settles from there
 pub record Going (rules : List Meaning) (g h : Log) : Type 0 where
-  pub settles : (u : List Step) (v : Verdict) → Settles rules g.level (held h.steps) u v → Settles rules g.level (held g.steps) u v
+  pub settles : (u : List Step) (v : Verdict) → Settles rules g.level (items_of h.trail) u v → Settles rules g.level (items_of g.trail) u v
   pub state : h.state ≡ g.state
   pub level : h.level ≡ g.level
 
 pub start : (rules : List Meaning) (g : Log) → Going rules g g
 start rules g = record { settles = λ u v s. s; state = refl; level = refl }
 
-pub again : (rules : List Meaning) (g h i : Log) (r : ℕ) (l : Literal) → Going rules g h → Answers rules (standing (held h.steps)) (Forced r l)
-    → held i.steps ≡ held h.steps ++ step l h.level (Some r) ∷ [] → i.state ≡ h.state → i.level ≡ h.level → Going rules g i
+pub again : (rules : List Meaning) (g h i : Log) (r : ℕ) (l : Literal) → Going rules g h → Answers rules (standing (items_of h.trail)) (Forced r l)
+    → items_of i.trail ≡ items_of h.trail ++ step l h.level (Some r) ∷ [] → i.state ≡ h.state → i.level ≡ h.level → Going rules g i
 again rules g h i r l o a steps state level =
-    let e : held i.steps ≡ held h.steps ++ step l g.level (Some r) ∷ [] = steps ∙ ap (λ (n : ℕ). held h.steps ++ step l n (Some r) ∷ []) o.level in
+    let e : items_of i.trail ≡ items_of h.trail ++ step l g.level (Some r) ∷ [] = steps ∙ ap (λ (n : ℕ). items_of h.trail ++ step l n (Some r) ∷ []) o.level in
     record {
       settles = λ u v s. o.settles u v (locks a (subst (λ (t : List Step). Settles rules g.level t u v) e s));
       state = state ∙ o.state;
@@ -83,8 +62,8 @@ pub asked : (rules rules' : List Meaning) (ls : List Literal) (t : List Step) (v
 asked rules rules' ls t v told e a =
     subst (λ (ms : List Meaning). Answers ms (standing t) v) e (subst (λ (ms : List Literal). Answers rules (set_of ms) v) told a)
 
-pub ran_quiet : (rules : List Meaning) (g h : Log) → Going rules g h → Answers rules (standing (held h.steps)) Quiet → Ran rules g None h
+pub ran_quiet : (rules : List Meaning) (g h : Log) → Going rules g h → Answers rules (standing (items_of h.trail)) Quiet → Ran rules g None h
 ran_quiet rules g h o a = record { settles = o.settles _ Quiet (quiet a); state = o.state; level = o.level }
 
-pub ran_broken : (rules : List Meaning) (g h : Log) (r : ℕ) → Going rules g h → Answers rules (standing (held h.steps)) (Broken r) → Ran rules g (Some r) h
+pub ran_broken : (rules : List Meaning) (g h : Log) (r : ℕ) → Going rules g h → Answers rules (standing (items_of h.trail)) (Broken r) → Ran rules g (Some r) h
 ran_broken rules g h r o a = record { settles = o.settles _ (Broken r) (broken a); state = o.state; level = o.level }

@@ -5,7 +5,7 @@ use Rattle.std.proofs.Math.Logic.{∥∥₁_elim, ∥∥₁_map}
 use Rattle.std.proofs.Props.{props}
 use Rattle.std.specs.Coded.{le_prop}
 use Rattle.std.specs.Result.{IsErrAnd}
-use Rattle.bounded.specs.Held.{held}
+use Rattle.told.specs.Trails.{items_of}
 use Rattle.literals.specs.declared.literal.Literal.{Literal}
 use Rattle.literals.specs.declared.refusal.Refusal.{Refusal}
 use Rattle.literals.specs.declared.refusal.Refusal.TheVariants.{OutOfRange}
@@ -91,10 +91,10 @@ cut_told E t u k ls after r c told q h =
 -- ---- what is done
 
 -- the log after going back: what is left at level k is the front that it cuts to
-pub dropped : (rules : List Meaning) (g h : Log) (k : ℕ) → ∥ Reached rules (view_of g) ∥₁ → Cut k (held g.steps) (held h.steps) → h.state ≡ Settled → h.level ≡ k
-    → view_of h ≡ record { state = Settled; level = k; trail = up_to k (held g.steps) }
+pub dropped : (rules : List Meaning) (g h : Log) (k : ℕ) → ∥ Reached rules (view_of g) ∥₁ → Cut k (items_of g.trail) (items_of h.trail) → h.state ≡ Settled → h.level ≡ k
+    → view_of h ≡ record { state = Settled; level = k; trail = up_to k (items_of g.trail) }
 dropped rules g h k some c state level =
-    let left : held h.steps ≡ up_to k (held g.steps) = c.is ∙ ∥∥₁_elim some (hlevel props) (λ r. front_up_to rules k c.left (run_keeps rules r.run).trail c.front.few c.front.all c.front.last) in
+    let left : items_of h.trail ≡ up_to k (items_of g.trail) = c.is ∙ ∥∥₁_elim some (hlevel props) (λ r. front_up_to rules k c.left (run_keeps rules r.run).trail c.front.few c.front.all c.front.last) in
     cc
 
 pub back_done : (rules : List Meaning) (v w : View) (k : ℕ) → None ≡ first_failed (checks v (Back k)) → w ≡ record { state = Settled; level = k; trail = up_to k v.trail } → Does rules v (Back k) (Ok reply.Done) w
@@ -120,13 +120,13 @@ choose_outside v n e q = failed_before (input_checks (Choose n)) (state_checks v
 pub choose_free : (v : View) (l : Literal) (n : ℤ) → number l ≡ n → None ≡ first_failed (checks v (Choose n)) → free (standing v.trail) l ≡ true
 choose_free v l n e p = (choosable v l (subst (λ (k : ℤ). None ≡ first_failed (checks v (Choose k))) (sym e) p)).free
 
-pub settle_quiet : (rules : List Meaning) (g h : Log) (n : ℕ) → None ≡ first_failed (checks (view_of g) Settle) → Ran rules g None h → length (held g.steps) + n ≡ length (held h.steps)
-    → Does rules (view_of g) Settle (Ok (reply.Grown n)) (record { state = Settled; level = h.level; trail = held h.steps })
+pub settle_quiet : (rules : List Meaning) (g h : Log) (n : ℕ) → None ≡ first_failed (checks (view_of g) Settle) → Ran rules g None h → length (items_of g.trail) + n ≡ length (items_of h.trail)
+    → Does rules (view_of g) Settle (Ok (reply.Grown n)) (record { state = Settled; level = h.level; trail = items_of h.trail })
 settle_quiet rules g h n p r e =
     does (sym p) (record { verdict = Quiet; settles = r.settles; said = (n, e, refl); state = refl; level = r.level })
 
 pub settle_broken : (rules : List Meaning) (g h : Log) (r c : ℕ) → None ≡ first_failed (checks (view_of g) Settle) → Ran rules g (Some r) h → OfRule rules r (λ m. c ≡ m.letter)
-    → Does rules (view_of g) Settle (Ok (reply.Clash (clash r h.level) c)) (record { state = Clashed r; level = h.level; trail = held h.steps })
+    → Does rules (view_of g) Settle (Ok (reply.Clash (clash r h.level) c)) (record { state = Clashed r; level = h.level; trail = items_of h.trail })
 settle_broken rules g h r c p q o =
     does (sym p)
     (record {

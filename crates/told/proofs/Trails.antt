@@ -1,12 +1,15 @@
 -- What a trail leans on: its set and its switches, where one more joins it and where the latest are taken back.
-use Rattle.std.proofs.Common.{◌≡◌, ◌<◌, ◌↔◌, true, List, [], ◌∷◌, ◌++◌, length, map, Result, None, IsOk, OnOk, ap, ◌∙◌, subst, arith}
+use Rattle.std.proofs.Common.{◌≡◌, ◌<◌, ◌↔◌, Bool, true, cond, List, [], ◌∷◌, ◌++◌, length, map, Result, Some, None, Ok, Err, IsOk, OnOk, MatchResult, ap, ap₂, ◌∙◌, subst, arith}
 use Rattle.std.proofs.lemmas.List.{length-map, map-append}
 use Rattle.bounded.specs.declared.full.Full.{Full}
 use Rattle.bounded.proofs.Lengths.{pushed_on}
 use Rattle.literals.specs.declared.literal.Literal.{Literal}
+use Rattle.literals.specs.declared.refusal.Refusal.{Refusal}
+use Rattle.literals.specs.declared.refusal.Refusal.TheVariants.{Stands, OppositeStands}
 use Rattle.literals.specs.declared.setting.Setting.{Setting}
-use Rattle.literals.specs.Refusals.{first_failed}
+use Rattle.literals.specs.Refusals.{first_failed, refusal_of}
 use Rattle.literals.specs.Settings.{free, plus, minus, set_of, taken_checks}
+use Rattle.literals.proofs.Standing.{free_parts}
 use Rattle.lists.specs.Lists.{distinct}
 use Rattle.lists.proofs.Sets.{room}
 use Rattle.told.proofs.Telling.{untaken, told_set, told_once, taken_out}
@@ -33,6 +36,15 @@ module _ {T : Type 0} (lit : T → Literal) (xs ys : List T) (x : T) (l : Litera
 
     pub joined_once : distinct (map lit ys) ≡ true
     joined_once = told_once (map lit xs) (map lit ys) (lit x) s s' same once free_there said (grown ∙ ap (plus s) is)
+
+-- one whose literal is free is not refused
+pub pushed_free : (P Q : Type 0) (s : Setting) (l : Literal) (r : Result (Unit {0}) Refusal) → free s l ≡ true → refusal_of r ≡ first_failed (taken_checks s l)
+    → MatchResult r (λ _. P) (λ _. Q) → P
+pushed_free P Q s l (Ok u) f e q = q
+pushed_free P Q s l (Err x) f e q =
+    let p = free_parts s l f in
+    let none : first_failed (taken_checks s l) ≡ None = ap₂ (λ (a b : Bool). cond a (Some Stands) (cond b (Some OppositeStands) None)) p.0 p.1 in
+    absurd cc
 
 -- ---- taken back, the latest first
 

@@ -51,11 +51,11 @@ impl<S: Shelf> Session<S> {
         ensures same { OnErr result (self.new ≡ self.old) }
     {
         self.log.admit(Call::Settle)?;
-        let before = self.log.steps.len();
+        let before = self.log.trail.count();
         match propagate(&mut self.shelf, &mut self.log) {
             None => {
                 self.log.state = State::Settled;
-                Ok(Outcome::Quiet((self.log.steps.len() - before) as u8))
+                Ok(Outcome::Quiet((self.log.trail.count() - before) as u8))
             }
             Some(rule) => {
                 let Ok(letter) = self.shelf.letter_of(rule) else {

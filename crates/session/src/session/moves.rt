@@ -1,5 +1,5 @@
 ghost use Rattle.std.specs.Prelude.{◌≡◌, true, [], ◌∷◌, ◌++◌};
-ghost use Rattle.bounded.specs.Held.{held};
+ghost use Rattle.told.specs.Trails.{items_of};
 ghost use Rattle.literals.specs.Settings.{free};
 ghost use Rattle.runs.specs.Views.{literals_on, standing};
 ghost use Rattle.session.specs.Logs.{Cut, Ran};
@@ -13,11 +13,11 @@ use shelf::Shelf;
 
 // Tells the shelf a free literal, and puts it on the trail.
 pub(crate) fn put<S: Shelf>(shelf: &mut S, log: &mut Log, step: Step)
-    requires told { S.Shelf.told shelf.old ≡ literals_on (held log.old.steps) }
-    requires free { free (standing (held log.old.steps)) step.literal ≡ true }
-    ensures told { S.Shelf.told shelf.new ≡ literals_on (held log.new.steps) }
+    requires told { S.Shelf.told shelf.old ≡ literals_on (items_of log.old.trail) }
+    requires free { free (standing (items_of log.old.trail)) step.literal ≡ true }
+    ensures told { S.Shelf.told shelf.new ≡ literals_on (items_of log.new.trail) }
     ensures rules { S.Shelf.rules shelf.new ≡ S.Shelf.rules shelf.old }
-    ensures steps { held log.new.steps ≡ held log.old.steps ++ step ∷ [] }
+    ensures steps { items_of log.new.trail ≡ items_of log.old.trail ++ step ∷ [] }
     ensures state { log.new.state ≡ log.old.state }
     ensures level { log.new.level ≡ log.old.level }
 {
@@ -27,8 +27,8 @@ pub(crate) fn put<S: Shelf>(shelf: &mut S, log: &mut Log, step: Step)
 
 // Locks what the shelf forces, until it is quiet, or says which rule is broken.
 pub(crate) fn propagate<S: Shelf>(shelf: &mut S, log: &mut Log) -> Option<usize>
-    requires told { S.Shelf.told shelf.old ≡ literals_on (held log.old.steps) }
-    ensures told { S.Shelf.told shelf.new ≡ literals_on (held log.new.steps) }
+    requires told { S.Shelf.told shelf.old ≡ literals_on (items_of log.old.trail) }
+    ensures told { S.Shelf.told shelf.new ≡ literals_on (items_of log.new.trail) }
     ensures rules { S.Shelf.rules shelf.new ≡ S.Shelf.rules shelf.old }
     ensures ran { Ran (S.Shelf.rules shelf.old) log.old result log.new }
 {
@@ -54,10 +54,10 @@ pub(crate) fn propagate<S: Shelf>(shelf: &mut S, log: &mut Log) -> Option<usize>
 
 // Drops what stands above level k, and is settled there.
 pub(crate) fn drop_above<S: Shelf>(shelf: &mut S, log: &mut Log, k: u8)
-    requires told { S.Shelf.told shelf.old ≡ literals_on (held log.old.steps) }
-    ensures told { S.Shelf.told shelf.new ≡ literals_on (held log.new.steps) }
+    requires told { S.Shelf.told shelf.old ≡ literals_on (items_of log.old.trail) }
+    ensures told { S.Shelf.told shelf.new ≡ literals_on (items_of log.new.trail) }
     ensures rules { S.Shelf.rules shelf.new ≡ S.Shelf.rules shelf.old }
-    ensures cut { Cut k (held log.old.steps) (held log.new.steps) }
+    ensures cut { Cut k (items_of log.old.trail) (items_of log.new.trail) }
     ensures state { log.new.state ≡ State.Settled }
     ensures level { log.new.level ≡ k }
 {

@@ -19,8 +19,8 @@ overflow_add-level g c = let x = c.args.self.now in let h = level_small _ (seen 
 pub put-requires-clause-free : goal.put-requires-clause-free
 put-requires-clause-free g c = choose_free (seen c.args.self.now) c.in_ok-literal.literal _ c.in_ok-literal.ensures.literal c.in_ok-admit.ensures
 
-pub invariant_of-self-3 : goal.invariant_of-self-3
-invariant_of-self-3 g c =
+pub invariant_of-self : goal.invariant_of-self
+invariant_of-self g c =
     let x = c.args.self.now in
     let put = c.put.ensures in
     let d = choose_done _ (seen x) c.in_ok-literal.literal c.args.n _ (simp (to_z-of_z, c.ranges.n) at c.in_ok-admit.ensures) (c.in_ok-literal.ensures.literal ∙ to_z-of_z w32 c.args.n c.ranges.n) put.steps in

@@ -9,4 +9,4 @@ returns-in_err-spend-clause-does g c = refused_spent _ _ _ c.from_residual.resul
 pub invariant_of-self : goal.invariant_of-self
 invariant_of-self g c =
     let x = c.args.self.now in
-    ((x.log.set, (x.log.once, tt)), (x.told, (next _ (seen x) x.reached _ _ _ _ (close_done _ (seen x) c.args.receipt.clash c.in_ok-spend.ensures) refl, tt)))
+    record { told = x.told; reached = next _ (seen x) x.reached _ _ _ _ (close_done _ (seen x) c.args.receipt.clash c.in_ok-spend.ensures) refl }

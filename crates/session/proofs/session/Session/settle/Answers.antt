@@ -1,5 +1,5 @@
 use Rattle.std.proofs.Common.{◌≡◌, ◌+◌, ◌-◌, List, length, subst, arith}
-use Rattle.bounded.specs.Held.{held}
+use Rattle.told.specs.Trails.{items_of}
 use Rattle.shelf.specs.Meanings.{Meaning, OfRule}
 use Rattle.session.specs.Sessions.{seen}
 use Rattle.session.proofs.Ties.{refused_settle, settle_quiet, settle_broken, settles_longer, broken_there, next}
@@ -11,21 +11,21 @@ returns-in_err-admit-clause-does g c = refused_settle _ _ c.from_residual.result
 pub overflow_sub-result : goal.overflow_sub-result
 overflow_sub-result g c =
     let longer = settles_longer _ _ c.in-None.ensures.ran.settles in
-    omega (arith, longer, c.len-before.ensures, c.len.ensures)
+    omega (arith, longer, c.count-before.ensures, c.count.ensures)
 
 pub unreachable-requires : goal.unreachable-requires
 unreachable-requires g c =
     let p = c.in-Some.ensures in
     broken_there (g.S.Shelf.rules c.args.self.now.shelf) (g.S.Shelf.rules c.propagate.new.shelf) c.args.self.now.log c.propagate.new.log c.in-Some.rule c.in_default.field-0 p.rules p.ran c.in_default.ensures.refused
 
-pub invariant_of-self-in-None : goal.invariant_of-self-in-None
-invariant_of-self-in-None g c =
+pub invariant_of-self : goal.invariant_of-self
+invariant_of-self g c =
     let x = c.args.self.now in
     let h = c.propagate.new.log in
     let p = c.in-None.ensures in
     let longer = settles_longer _ _ p.ran.settles in
-    let n = length (held h.steps) - length (held x.log.steps) in
-    let grown : length (held x.log.steps) + (length (held h.steps) - length (held x.log.steps)) ≡ length (held h.steps) = omega (arith, longer) in
+    let n = length (items_of h.trail) - length (items_of x.log.trail) in
+    let grown : length (items_of x.log.trail) + (length (items_of h.trail) - length (items_of x.log.trail)) ≡ length (items_of h.trail) = omega (arith, longer) in
     record { told = p.told; reached = next _ (seen x) x.reached _ _ _ _ (settle_quiet _ x.log h n c.in_ok-admit.ensures p.ran grown) p.rules }
 
 pub returns-in-None-clause-does : goal.returns-in-None-clause-does
@@ -34,12 +34,12 @@ returns-in-None-clause-does g c =
     let h = c.propagate.new.log in
     let p = c.in-None.ensures in
     let longer = settles_longer _ _ p.ran.settles in
-    let n = c.len.result - c.len-before.result in
-    let grown : length (held x.steps) + (c.len.result - c.len-before.result) ≡ length (held h.steps) = omega (arith, longer, c.len-before.ensures, c.len.ensures) in
+    let n = c.count.result - c.count-before.result in
+    let grown : length (items_of x.trail) + (c.count.result - c.count-before.result) ≡ length (items_of h.trail) = omega (arith, longer, c.count-before.ensures, c.count.ensures) in
     settle_quiet _ x h n c.in_ok-admit.ensures p.ran grown
 
-pub invariant_of-self-in-Some-2 : goal.invariant_of-self-in-Some-2
-invariant_of-self-in-Some-2 g c =
+pub invariant_of-self-in-Some : goal.invariant_of-self-in-Some
+invariant_of-self-in-Some g c =
     let x = c.args.self.now in
     let h = c.propagate.new.log in
     let p = c.in-Some.ensures in

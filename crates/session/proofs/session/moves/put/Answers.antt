@@ -1,5 +1,5 @@
 use Rattle.std.proofs.Common.{◌≡◌, ℤ, sym, ◌∙◌, w16, to_z, of_z, rules}
-use Rattle.bounded.specs.Held.{held}
+use Rattle.told.specs.Trails.{items_of}
 use Rattle.session.proofs.Settling.{put_told}
 use Rattle.session.proofs.session.moves.put.Goals as goal
 
@@ -8,4 +8,4 @@ returns-clause-told g c =
     let told = c.tell.ensures in
     let m : ℤ = to_z w16 (of_z w16 c.from.result) in
     let is : m ≡ c.from.result = search rules in
-    put_told _ (held c.args.log.now.steps) _ c.args.step _ _ m c.tell.result c.requires.told c.requires.free (sym (is ∙ c.from.ensures)) told.refused told.told c.push.ensures.steps
+    put_told _ (items_of c.args.log.now.trail) _ c.args.step _ _ m c.tell.result c.requires.told c.requires.free (sym (is ∙ c.from.ensures)) told.refused told.told c.push.ensures.steps
