@@ -1,7 +1,8 @@
 -- The literal of the lowest switch among the terms that pass a test: the loop that looks for it, and that it is the first above a number.
-use Rattle.std.proofs.Common.{◌≡◌, ℕ, ◌<◌, ◌≤◌, Bool, true, false, cond, not, ◌&&◌, ltb, ◌⊎◌, List, [], ◌∷◌, ◌++◌, ℤ, pos, Some, None, Option, sym, refl, ap, ◌∙◌, subst, inl, inr, ⊎_elim, arith}
+use Rattle.std.proofs.Common.{◌≡◌, ℕ, ◌+◌, ◌<◌, ◌≤◌, Bool, true, false, cond, not, ◌&&◌, ltb, ◌⊎◌, List, [], ◌∷◌, ◌++◌, length, get_or, take, ℤ, pos, Some, None, Option, sym, refl, ap, ◌∙◌, subst, inl, inr, ⊎_elim, arith}
 use lib.Signed.{lt_z}
 use Rattle.std.specs.List.{All}
+use Rattle.std.proofs.lemmas.List.{take_more}
 use Rattle.std.proofs.lemmas.List.Elements.{All-head, All-tail, All-push, All-weaker}
 use Rattle.std.proofs.lemmas.Int.{ints}
 use Rattle.std.proofs.lemmas.List.Sums.{sum_by-cons}
@@ -67,6 +68,13 @@ lowest_push p ts t (Some b) h =
 
 pub lowest_improved : (p : Term → Bool) (ts : List Term) (t : Term) (best next : Option Literal) → next ≡ improved p best t → Lowest p ts best → Lowest p (ts ++ t ∷ []) next
 lowest_improved p ts t best next e h = subst (λ (o : Option Literal). Lowest p (ts ++ t ∷ []) o) (sym e) (lowest_push p ts t best h)
+
+pub lowest_more : (p : Term → Bool) (ts : List Term) (i : ℕ) (t : Term) (best next : Option Literal) → i < length ts → t ≡ get_or ts i t → next ≡ improved p best t
+    → Lowest p (take i ts) best → Lowest p (take (i + 1) ts) next
+lowest_more p ts i t best next lt is e h =
+    let more : take (i + 1) ts ≡ take i ts ++ (t ∷ []) = take_more ts i t lt ∙ ap (λ (y : Term). take i ts ++ (y ∷ [])) (sym is) in
+    subst (λ (o : Option Literal). Lowest p (take (i + 1) ts) o) (sym e)
+    (subst (λ (xs : List Term). Lowest p xs (improved p best t)) (sym more) (lowest_push p (take i ts) t best h))
 
 -- ---- over distinct switches, a literal that weighs something is that of one term, which has its weight
 

@@ -1,11 +1,11 @@
 -- What a literal weighs in a list of terms over distinct switches.
-use Rattle.std.proofs.Common.{◌≡◌, ℕ, ◌<◌, Bool, true, false, cond, not, ◌||◌, eqb, ◌⊎◌, List, [], ◌∷◌, find, option_map, unwrap_or, Some, None, Option, sym, refl, ap, ◌∙◌, subst, inl, inr, ⊎_elim, arith}
+use Rattle.std.proofs.Common.{◌≡◌, ℕ, zero, suc, ◌+◌, ◌<◌, Bool, true, false, cond, not, ◌||◌, eqb, ◌⊎◌, List, [], ◌∷◌, find, option_map, unwrap_or, Some, None, Option, length, get_or, take, sym, refl, ap, ◌∙◌, subst, inl, inr, ⊎_elim, arith}
 use Rattle.std.specs.List.{list_any}
-use Rattle.std.proofs.lemmas.List.Sums.{sum_by-cons}
-use Rattle.std.proofs.lemmas.Bool.{or_parts, and_parts, and_left, not-true, both_ways, cases_Bool}
+use Rattle.std.proofs.lemmas.List.Sums.{sum_by-cons, sum_by_more}
+use Rattle.std.proofs.lemmas.Bool.{eq-eqb, or_left, or_right, or_parts, and_parts, and_left, not-true, both_ways, cases_Bool}
 use Rattle.literals.specs.declared.literal.Literal.{Literal}
 use Rattle.literals.specs.Literals.{same}
-use Rattle.literals.proofs.Known.{same_is}
+use Rattle.literals.proofs.Known.{same_is, same_self}
 use Rattle.lists.specs.Lists.{mentioned, distinct}
 use Rattle.linear.specs.declared.term.Term.{Term}
 use Rattle.linear.specs.Terms.{literals, weight_at, weight_of}
@@ -16,6 +16,32 @@ weight_none (t ∷ ts) l h =
     let both = or_parts (eqb t.literal.switch l.switch) (mentioned (literals ts) l.switch) h in
     let z : weight_at l t ≡ 0 = ap (λ (b : Bool). cond b t.weight 0) (and_left _ _ both.0) in
     omega (arith, sum_by-cons (weight_at l) t ts, weight_none ts l both.1)
+
+pub at_mentioned : (ts : List Term) (i : ℕ) (t : Term) → i < length ts → t ≡ get_or ts i t → mentioned (literals ts) t.literal.switch ≡ true
+at_mentioned [] i t lt is = absurd (omega arith)
+at_mentioned (x ∷ ts) zero t lt is = or_left _ _ (eq-eqb x.literal.switch t.literal.switch (ap (λ (y : Term). y.literal.switch) (sym is)))
+at_mentioned (x ∷ ts) (suc i) t lt is = or_right _ _ (at_mentioned ts i t (omega arith) is)
+
+-- the term at place i weighs its literal
+pub weight_here : (ts : List Term) (i : ℕ) (t : Term) → distinct (literals ts) ≡ true → i < length ts → t ≡ get_or ts i t → weight_of ts t.literal ≡ t.weight
+weight_here [] i t d lt is = absurd (omega arith)
+weight_here (x ∷ ts) zero t d lt is =
+    let once = and_parts (not (mentioned (literals ts) x.literal.switch)) (distinct (literals ts)) d in
+    let e : x.literal ≡ t.literal = ap (λ (y : Term). y.literal) (sym is) in
+    let none : weight_of ts t.literal ≡ 0 = weight_none ts t.literal (subst (λ (k : Literal). mentioned (literals ts) k.switch ≡ false) e (not-true _ once.0)) in
+    let one : weight_at t.literal x ≡ x.weight =
+    ap (λ (b : Bool). cond b x.weight 0) (subst (λ (k : Literal). same x.literal k ≡ true) e (same_self x.literal)) in
+    let w : x.weight ≡ t.weight = ap (λ (y : Term). y.weight) (sym is) in
+    omega (arith, sum_by-cons (weight_at t.literal) x ts)
+weight_here (x ∷ ts) (suc i) t d lt is =
+    let once = and_parts (not (mentioned (literals ts) x.literal.switch)) (distinct (literals ts)) d in
+    let m = at_mentioned ts i t (omega arith) is in
+    let apart : same x.literal t.literal ≡ false =
+    ⊎_elim
+    (λ h. absurd (both_ways _ (not-true _ once.0) (subst (λ (k : Literal). mentioned (literals ts) k.switch ≡ true) (sym (same_is x.literal t.literal h)) m)))
+    (λ h. h) (cases_Bool (same x.literal t.literal)) in
+    let z : weight_at t.literal x ≡ 0 = ap (λ (b : Bool). cond b x.weight 0) apart in
+    omega (arith, sum_by-cons (weight_at t.literal) x ts, weight_here ts i t once.1 (omega arith) is)
 
 -- a literal weighs something by the first term or by a later one
 weighs_cases : (t : Term) (ts : List Term) (l : Literal) → 0 < weight_of (t ∷ ts) l → (same t.literal l ≡ true) ⊎ (0 < weight_of ts l)
@@ -82,3 +108,15 @@ found_weighs (t ∷ ts) l d = ⊎_elim here (there (found_weighs ts l)) (cases_B
     there later e =
         let z : weight_at l t ≡ 0 = ap (λ (b : Bool). cond b t.weight 0) e in
         step false e ∙ later once.1 ∙ omega (arith, sum_by-cons (weight_at l) t ts)
+
+-- ---- a literal looked for place by place
+
+pub none_more : (ts : List Term) (i : ℕ) (t : Term) (l : Literal) → i < length ts → t ≡ get_or ts i t → same t.literal l ≡ false
+    → weight_of (take i ts) l ≡ 0 → weight_of (take (i + 1) ts) l ≡ 0
+none_more ts i t l lt is off h =
+    let z : weight_at l (get_or ts i t) ≡ 0 = ap (weight_at l) (sym is) ∙ ap (λ (b : Bool). cond b t.weight 0) off in
+    omega (arith, sum_by_more (weight_at l) ts i t lt)
+
+pub weight_found : (ts : List Term) (i : ℕ) (t : Term) (l : Literal) → distinct (literals ts) ≡ true → i < length ts → t ≡ get_or ts i t → same t.literal l ≡ true
+    → t.weight ≡ weight_of ts l
+weight_found ts i t l d lt is h = sym (weight_here ts i t d lt is) ∙ ap (weight_of ts) (same_is t.literal l h)

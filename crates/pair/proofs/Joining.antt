@@ -1,23 +1,26 @@
 -- What a pair leans on, over plain values.
-use Rattle.std.proofs.Common.{◌≡◌, ◌≢◌, ℕ, ◌+◌, ◌-◌, ◌<◌, ◌≤◌, List, [], ◌∷◌, ◌++◌, length, take, ℤ, IfOk, Some, None, Ok, Err, Option, Result, sym, ap, ◌∙◌, subst, arith, MatchResult}
+use Rattle.std.proofs.Common.{◌≡◌, ℕ, ◌+◌, ◌-◌, ◌<◌, ◌≤◌, Bool, true, false, cond, ltb, List, [], ◌∷◌, ◌++◌, length, take, ℤ, IfOk, Some, None, Ok, Err, Option, Result, sym, ap, ◌∙◌, subst, arith, MatchResult}
 use Rattle.std.proofs.lemmas.List.{length-append}
-use Rattle.std.proofs.Props.{props}
 use Rattle.std.proofs.lemmas.Result.{IfOk-weaker}
+use Rattle.std.proofs.lemmas.Bool.{ltb-false}
 use Rattle.std.proofs.lemmas.Bool.Decides.{nat_tests}
 use Rattle.literals.specs.declared.literal.Literal.{Literal}
 use Rattle.literals.specs.declared.refusal.Refusal.{Refusal}
+use Rattle.literals.specs.declared.refusal.Refusal.TheVariants.{OutOfRange, NoSuchPlace}
 use Rattle.literals.specs.declared.setting.Setting.{Setting}
+use Rattle.literals.specs.Literals.{no_switch}
 use Rattle.literals.specs.Refusals.{first_failed, refusal_of}
 use Rattle.literals.specs.Settings.{set_of}
 use Rattle.literals.proofs.Known.{number_same}
 use Rattle.rules.specs.declared.Verdict.{Verdict}
-use Rattle.rules.specs.declared.Verdict.TheVariants.{Quiet, Broken}
+use Rattle.rules.specs.declared.Verdict.TheVariants.{Quiet, Broken, Forced}
 use Rattle.told.specs.Tellings.{Appended, tell_checks, back_checks}
 use Rattle.told.proofs.Telling.{took_back}
-use Rattle.shelf.specs.Meanings.{Meaning, Every, Answers, OfRule, shut}
-use Rattle.shelf.proofs.Caps.{over, under, every_shut, of_every, shut_answers}
-use Rattle.shelf.proofs.Lists.{after, answers_first, answers_second, of_left, of_right}
-use Rattle.pair.specs.Pairs.{pair_letter, pair_rules, split_of}
+use Rattle.shelf.specs.Meanings.{Meaning, Answers, OfRule, shut, no_rule, letter_checks, mention_checks}
+use Rattle.rules.specs.Scans.{first}
+use Rattle.shelf.proofs.Caps.{shut_answers, letter_there, mention_there}
+use Rattle.shelf.proofs.Lists.{after, answers_first_broken, answers_first_forced, answers_second, of_left, of_right}
+use Rattle.pair.specs.Pairs.{pair_letter, pair_rules}
 
 -- ---- telling and taking back
 
@@ -37,69 +40,106 @@ pub both_tell : (E : Type 0) (r : Result (Unit {0}) Refusal) (ts us us' : List L
 both_tell E (Ok _) ts us us' n e p q h = h
 both_tell E (Err x) ts us us' n e p q h = let f = ap (λ (xs : List Literal). first_failed (tell_checks xs n)) e in let z : ◌≡◌ {A = ℕ} 0 1 = cc in absurd (omega arith)
 
--- ---- what a refused call leaves
+pub tell_refused : (r : Result (Unit {0}) Refusal) (ts us : List Literal) (m n : ℤ) → m ≡ n → ts ≡ us → refusal_of r ≡ first_failed (tell_checks us m) → refusal_of r ≡ first_failed (tell_checks ts n)
+tell_refused r ts us m n e f q = q ∙ ap (λ (xs : List Literal). first_failed (tell_checks xs m)) (sym f) ∙ ap (λ (k : ℤ). first_failed (tell_checks ts k)) e
 
--- a value made again of what it was made of, and of what can be proved in one way only, is that value
-pub rebuilt : {A T : Type 0} {P : A → Type 0} (make : (a : A) → P a → T) → ((a : A) → IsProp (P a)) → {a a' : A} → a' ≡ a → (p' : P a') → (p : P a) → make a' p' ≡ make a p
-rebuilt {A} {T} {P} make prop {a} {a'} e p' p = subst (λ (b : A). (q : P b) → make b q ≡ make a p) (sym e) (λ q. ap (make a) (prop a q p)) p'
-
--- the first shelf is as it was, so the pair is
-pub kept : {A T : Type 0} (told : A → List Literal) (rules : A → List Meaning) (us : List Literal) (ys : List Meaning) (split : Option ℕ)
-    (make : (a : A) → (told a ≡ us) × (split ≡ split_of (rules a) ys) → T) {a a' : A} → a' ≡ a
-    → (p' : (told a' ≡ us) × (split ≡ split_of (rules a') ys)) (p : (told a ≡ us) × (split ≡ split_of (rules a) ys)) → make a' p' ≡ make a p
-kept told rules us ys split make e p' p = rebuilt make (λ b. hlevel props) e p' p
+pub tell_told : (F : Type 0) (r : Result (Unit {0}) Refusal) (ts us ts' : List Literal) (m n : ℤ) → m ≡ n → ts ≡ us → None ≡ first_failed (tell_checks ts m) → refusal_of r ≡ first_failed (tell_checks us m)
+    → Appended ts m ts' → MatchResult r (λ _. Appended ts n ts') (λ _. F)
+tell_told F (Ok _) ts us ts' m n e f p q h = subst (λ (k : ℤ). Appended ts k ts') e h
+tell_told F (Err x) ts us ts' m n e f p q h = let g = ap (λ (xs : List Literal). first_failed (tell_checks xs m)) f in let z : ◌≡◌ {A = ℕ} 0 1 = cc in absurd (omega arith)
 
 -- ---- the rules
 
-pub split_same : (xs ys xs' ys' : List Meaning) → xs' ≡ xs → ys' ≡ ys → split_of xs ys ≡ split_of xs' ys'
-split_same xs ys xs' ys' p q = ap (λ (rs : List Meaning). split_of rs ys) (sym p) ∙ ap (split_of xs') (sym q)
+pub joined_over : (xs ys : List Meaning) (m n : ℕ) → m ≡ length xs → n ≡ length ys → ltb 1024 (m + n) ≡ ltb 1024 (length (xs ++ ys))
+joined_over xs ys m n p q = let e = length-append xs ys in let f : m + n ≡ length (xs ++ ys) = omega arith in ap (ltb 1024) f
 
--- a pair that knows where the second shelf's rules begin has all the rules of both
-module _ (xs ys : List Meaning) (split : ℕ) (e : Some split ≡ split_of xs ys) where
-  pub all_few : length (xs ++ ys) ≤ 1024
-  all_few = grind (arith, nat_tests)
+pub joined_rules : (xs ys xs' ys' : List Meaning) → xs ≡ xs' → ys ≡ ys' → pair_rules xs ys ≡ pair_rules xs' ys'
+joined_rules xs ys xs' ys' p q = ap (λ (rs : List Meaning). pair_rules rs ys) p ∙ ap (pair_rules xs') q
 
-  pub all_split : split ≡ length xs
-  all_split = grind (arith, nat_tests)
+pub joined_kept : (xs ys xs' ys' : List Meaning) (closed : Bool) → xs' ≡ xs → ys' ≡ ys → closed ≡ ltb 1024 (length (xs ++ ys)) → closed ≡ ltb 1024 (length (xs' ++ ys'))
+joined_kept xs ys xs' ys' closed p q h = h ∙ ap (λ (rs : List Meaning). ltb 1024 (length (rs ++ ys))) (sym p) ∙ ap (λ (rs : List Meaning). ltb 1024 (length (xs' ++ rs))) (sym q)
 
-  pub all_rules : pair_rules xs ys ≡ xs ++ ys
-  all_rules = under pair_letter (xs ++ ys) all_few
+module _ (xs ys : List Meaning) (split : ℕ) (closed : Bool) (sp : split ≡ length xs) (over : closed ≡ ltb 1024 (length (xs ++ ys))) where
+  pub open_rules : closed ≡ false → pair_rules xs ys ≡ xs ++ ys
+  open_rules h = ap (λ (b : Bool). cond b (shut pair_letter ∷ []) (xs ++ ys)) (sym over ∙ h)
 
-  pub sum_few : (r : ℕ) → r ≤ length ys → split + r ≤ 1024
-  sum_few r h = omega (arith, length-append xs ys, all_few, all_split)
+  pub shut_rules : closed ≡ true → pair_rules xs ys ≡ shut pair_letter ∷ []
+  shut_rules h = ap (λ (b : Bool). cond b (shut pair_letter ∷ []) (xs ++ ys)) (sym over ∙ h)
+
+  -- ---- the pair failed shut
+
+  module _ (h : closed ≡ true) where
+    pub shut_answer : (s : Setting) → Answers (pair_rules xs ys) s (Broken 1)
+    shut_answer s = subst (λ (rs : List Meaning). Answers rs s (Broken 1)) (sym (shut_rules h)) (shut_answers pair_letter s)
+
+    pub shut_of : (r : ℕ) (P : Meaning → Type 0) → r ≡ 1 → P (shut pair_letter) → OfRule (pair_rules xs ys) r P
+    shut_of r P e p =
+        subst (λ (k : ℕ). OfRule (pair_rules xs ys) k P) (sym e)
+        (subst (λ (rs : List Meaning). OfRule rs 1 P) (sym (shut_rules h)) (record { rule = shut pair_letter; numbered = first; is = p }))
+
+    pub shut_letter : (r : ℕ) → r ≡ 1 → None ≡ first_failed (letter_checks (pair_rules xs ys) r)
+    shut_letter r e = let k = ap length (shut_rules h) in letter_there (pair_rules xs ys) r (omega arith) (omega arith)
+
+    pub shut_mention : (r n : ℕ) → 1 ≤ n → n ≤ 64 → r ≡ 1 → None ≡ first_failed (mention_checks (pair_rules xs ys) r n)
+    shut_mention r n a b e = let k = ap length (shut_rules h) in mention_there (pair_rules xs ys) r n a b (omega arith) (omega arith)
+
+  -- ---- the pair has all the rules of both
+
+  pub open_few : closed ≡ false → split + length ys ≤ 1024
+  open_few h = let e = length-append xs ys in let k = ltb-false 1024 (length (xs ++ ys)) (sym over ∙ h) in omega arith
+
+  pub open_count : (n : ℕ) → n ≡ length ys → closed ≡ false → split + n ≡ length (pair_rules xs ys)
+  open_count n e h = let k = length-append xs ys in let j = ap length (open_rules h) in omega arith
+
+  numbers_left : (r : ℕ) → r ≤ length xs → no_rule xs r ≡ no_rule (xs ++ ys) r
+  numbers_left r h = let e = length-append xs ys in grind (arith, nat_tests)
+
+  numbers_right : (r : ℕ) → length xs < r → no_rule ys (r - length xs) ≡ no_rule (xs ++ ys) r
+  numbers_right r h = let e = length-append xs ys in grind (arith, nat_tests)
 
   -- ---- what is told of a rule of the first, or of the second
 
-  module _ {X : Type 0} (a : Result X Refusal) (P : X → Meaning → Type 0) (r : ℕ) where
-    pub is_first : IfOk a (λ x. OfRule xs r (P x)) → IfOk a (λ x. OfRule (pair_rules xs ys) r (P x))
-    is_first h = IfOk-weaker a _ _ (λ x o. subst (λ (rs : List Meaning). OfRule rs r (P x)) (sym all_rules) (of_left xs ys (P x) r o)) h
+  module _ (r : ℕ) (clear : closed ≡ false) where
+    refused_left : r ≤ split → no_rule xs r ≡ no_rule (pair_rules xs ys) r
+    refused_left q = numbers_left r (omega arith) ∙ ap (λ (rs : List Meaning). no_rule rs r) (sym (open_rules clear))
 
-    pub is_second : split < r → IfOk a (λ x. OfRule ys (r - split) (P x)) → IfOk a (λ x. OfRule (pair_rules xs ys) r (P x))
-    is_second q h =
-        let z : length xs + (r - split) ≡ r = omega (arith, all_split) in
+    refused_right : split < r → no_rule ys (r - split) ≡ no_rule (pair_rules xs ys) r
+    refused_right q = ap (λ (k : ℕ). no_rule ys (r - k)) sp ∙ numbers_right r (omega arith) ∙ ap (λ (rs : List Meaning). no_rule rs r) (sym (open_rules clear))
+
+    pub letter_left : r ≤ split → first_failed (letter_checks xs r) ≡ first_failed (letter_checks (pair_rules xs ys) r)
+    letter_left q = ap (λ (b : Bool). cond b (Some NoSuchPlace) None) (refused_left q)
+
+    pub letter_right : split < r → first_failed (letter_checks ys (r - split)) ≡ first_failed (letter_checks (pair_rules xs ys) r)
+    letter_right q = ap (λ (b : Bool). cond b (Some NoSuchPlace) None) (refused_right q)
+
+    pub mention_left : (n : ℕ) → r ≤ split → first_failed (mention_checks xs r n) ≡ first_failed (mention_checks (pair_rules xs ys) r n)
+    mention_left n q = ap (λ (o : Option Refusal). cond (no_switch n) (Some OutOfRange) o) (letter_left q)
+
+    pub mention_right : (n : ℕ) → split < r → first_failed (mention_checks ys (r - split) n) ≡ first_failed (mention_checks (pair_rules xs ys) r n)
+    mention_right n q = ap (λ (o : Option Refusal). cond (no_switch n) (Some OutOfRange) o) (letter_right q)
+
+    pub is_left : {X : Type 0} (a : Result X Refusal) (P : X → Meaning → Type 0) → IfOk a (λ x. OfRule xs r (P x)) → IfOk a (λ x. OfRule (pair_rules xs ys) r (P x))
+    is_left a P h = IfOk-weaker a _ _ (λ x o. subst (λ (rs : List Meaning). OfRule rs r (P x)) (sym (open_rules clear)) (of_left xs ys (P x) r o)) h
+
+    pub is_right : {X : Type 0} (a : Result X Refusal) (P : X → Meaning → Type 0) → split < r → IfOk a (λ x. OfRule ys (r - split) (P x)) → IfOk a (λ x. OfRule (pair_rules xs ys) r (P x))
+    is_right a P q h =
+        let z : length xs + (r - split) ≡ r = omega arith in
         IfOk-weaker a _ _
-        (λ x o. subst (λ (rs : List Meaning). OfRule rs r (P x)) (sym all_rules)
+        (λ x o. subst (λ (rs : List Meaning). OfRule rs r (P x)) (sym (open_rules clear))
         (subst (λ (k : ℕ). OfRule (xs ++ ys) k (P x)) z (of_right xs ys (P x) (r - split) o)))
         h
 
   -- ---- what the first answers, or, where it is quiet, the second
 
-  pub first_answers : (s : Setting) (v : Verdict) → v ≢ Quiet → Answers xs s v → Answers (pair_rules xs ys) s v
-  first_answers s v loud h = subst (λ (rs : List Meaning). Answers rs s v) (sym all_rules) (answers_first xs ys s v loud h)
+  module _ (clear : closed ≡ false) where
+    pub first_broken : (s : Setting) (r : ℕ) → Answers xs s (Broken r) → Answers (pair_rules xs ys) s (Broken r)
+    first_broken s r q = subst (λ (rs : List Meaning). Answers rs s (Broken r)) (sym (open_rules clear)) (answers_first_broken xs ys s r q)
 
-  pub second_answers : (ts us : List Literal) (v : Verdict) → ts ≡ us → Answers xs (set_of ts) Quiet → Answers ys (set_of us) v → Answers (pair_rules xs ys) (set_of ts) (after split v)
-  second_answers ts us v same p q =
-      subst (λ (rs : List Meaning). Answers rs (set_of ts) (after split v)) (sym all_rules)
-      (subst (λ (n : ℕ). Answers (xs ++ ys) (set_of ts) (after n v)) (sym all_split)
-      (answers_second xs ys (set_of ts) v p (subst (λ (ls : List Literal). Answers ys (set_of ls) v) (sym same) q)))
+    pub first_forced : (s : Setting) (r : ℕ) (l : Literal) → Answers xs s (Forced r l) → Answers (pair_rules xs ys) s (Forced r l)
+    first_forced s r l q = subst (λ (rs : List Meaning). Answers rs s (Forced r l)) (sym (open_rules clear)) (answers_first_forced xs ys s r l q)
 
--- a pair that does not know it failed shut
-module _ (xs ys : List Meaning) (e : None ≡ split_of xs ys) where
-  pub shut_rules : pair_rules xs ys ≡ shut pair_letter ∷ []
-  shut_rules = over pair_letter (xs ++ ys) (grind (arith, nat_tests))
-
-  pub shut_answer : (s : Setting) → Answers (pair_rules xs ys) s (Broken 1)
-  shut_answer s = subst (λ (rs : List Meaning). Answers rs s (Broken 1)) (sym shut_rules) (shut_answers pair_letter s)
-
-  pub shut_of : (r : ℕ) (P : Meaning → Type 0) → P (shut pair_letter) → (1 ≤ r) × (r ≤ length (pair_rules xs ys)) → OfRule (pair_rules xs ys) r P
-  shut_of r P p there = of_every (pair_rules xs ys) r P (subst (λ (rs : List Meaning). Every rs P) (sym shut_rules) (every_shut pair_letter P p)) there
+    pub second : (ts us : List Literal) (v : Verdict) → ts ≡ us → Answers xs (set_of ts) Quiet → Answers ys (set_of us) v → Answers (pair_rules xs ys) (set_of ts) (after split v)
+    second ts us v e p q =
+        subst (λ (rs : List Meaning). Answers rs (set_of ts) (after split v)) (sym (open_rules clear))
+        (subst (λ (n : ℕ). Answers (xs ++ ys) (set_of ts) (after n v)) (sym sp)
+        (answers_second xs ys (set_of ts) v p (subst (λ (ls : List Literal). Answers ys (set_of ls) v) (sym e) q)))

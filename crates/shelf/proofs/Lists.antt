@@ -1,5 +1,6 @@
 -- What a shelf answers whose rules are those of records, or of one list after another.
 use Rattle.std.proofs.Common.{◌≡◌, ◌≢◌, ℕ, ◌+◌, ◌<◌, ◌≤◌, true, List, ◌++◌, map, length, refl, subst, ⊎_elim, arith}
+use Rattle.literals.specs.declared.literal.Literal.{Literal}
 use Rattle.literals.specs.declared.setting.Setting.{Setting}
 use Rattle.rules.specs.declared.Verdict.{Verdict}
 use Rattle.rules.specs.declared.Verdict.TheVariants.{Quiet, Broken, Forced}
@@ -69,10 +70,16 @@ module _ (xs ys : List Meaning) where
       }
 
   -- what the first rules answer, unless they are quiet
+  pub answers_first_broken : (s : Setting) (r : ℕ) → Answers xs s (Broken r) → Answers (xs ++ ys) s (Broken r)
+  answers_first_broken s r h = lowest_left s (λ m. m.breaks s ≡ true) r h
+
+  pub answers_first_forced : (s : Setting) (r : ℕ) (l : Literal) → Answers xs s (Forced r l) → Answers (xs ++ ys) s (Forced r l)
+  answers_first_forced s r l h = lowest_left s (λ m. First m.breaks s l) r h
+
   pub answers_first : (s : Setting) (v : Verdict) → v ≢ Quiet → Answers xs s v → Answers (xs ++ ys) s v
   answers_first s Quiet loud h = absurd (loud refl)
-  answers_first s (Broken r) loud h = lowest_left s (λ m. m.breaks s ≡ true) r h
-  answers_first s (Forced r l) loud h = lowest_left s (λ m. First m.breaks s l) r h
+  answers_first s (Broken r) loud h = answers_first_broken s r h
+  answers_first s (Forced r l) loud h = answers_first_forced s r l h
 
   -- else what the second answer, with their numbers continued
   pub answers_second : (s : Setting) (v : Verdict) → Answers xs s Quiet → Answers ys s v → Answers (xs ++ ys) s (after (length xs) v)

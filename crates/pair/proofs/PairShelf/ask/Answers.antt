@@ -3,7 +3,7 @@ use Rattle.literals.specs.Settings.{set_of}
 use Rattle.rules.specs.declared.Verdict.TheVariants.{Quiet, Broken, Forced}
 use Rattle.rules.proofs.Numbers.{numbered_high}
 use Rattle.pair.specs.Pairs.{split_of}
-use Rattle.pair.proofs.Joining.{shut_answer, first_answers, second_answers, sum_few}
+use Rattle.pair.proofs.Splitting.{none_answer, first_answers, second_answers, sum_few}
 use Rattle.pair.proofs.PairShelf.ask.Goals as goal
 
 pub returns-in_default : goal.returns-in_default
@@ -12,7 +12,7 @@ returns-in_default g c =
     let xs = g.A.Shelf.rules p.first in
     let ys = g.B.Shelf.rules p.second in
     let e : None ≡ split_of xs ys = sym c.in_default.is ∙ p.splits in
-    shut_answer xs ys e (set_of (g.A.Shelf.told p.first))
+    none_answer xs ys e (set_of (g.A.Shelf.told p.first))
 
 pub overflow_add-result : goal.overflow_add-result
 overflow_add-result g c =

@@ -1,7 +1,7 @@
 use Rattle.std.proofs.Common.{◌≡◌, None, Some, sym, ◌∙◌}
-use Rattle.shelf.proofs.Caps.{rule_there}
+use Rattle.shelf.proofs.Caps.{rule_passed}
 use Rattle.pair.specs.Pairs.{pair_rules, split_of}
-use Rattle.pair.proofs.Joining.{is_first, is_second, shut_of}
+use Rattle.pair.proofs.Splitting.{is_first, is_second, none_of}
 use Rattle.pair.proofs.PairShelf.letter_of.Goals as goal
 
 pub returns-in-Some-clause-is : goal.returns-in-Some-clause-is
@@ -26,4 +26,4 @@ returns-in_ok-check_rule-in-None-clause-is g c =
     let xs = g.A.Shelf.rules p.first in
     let ys = g.B.Shelf.rules p.second in
     let e : None ≡ split_of xs ys = sym c.in-None.is ∙ p.splits in
-    shut_of xs ys e c.args.rule (λ m. c.letter.result ≡ m.letter) c.letter.ensures (rule_there (pair_rules xs ys) c.args.rule c.in_ok-check_rule-in-None.ensures)
+    none_of xs ys e c.args.rule (λ m. c.letter.result ≡ m.letter) c.letter.ensures (rule_passed (pair_rules xs ys) c.args.rule c.in_ok-check_rule-in-None.ensures)

@@ -1,5 +1,5 @@
 use Rattle.std.proofs.lemmas.Result.{MatchResult-from_err}
-use Rattle.pair.proofs.Joining.{kept}
+use Rattle.pair.proofs.Splitting.{kept}
 use Rattle.pair.proofs.PairShelf.take_back.Goals as goal
 
 pub returns-in_err-take_back-clause-told : goal.returns-in_err-take_back-clause-told

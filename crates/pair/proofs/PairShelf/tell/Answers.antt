@@ -1,6 +1,7 @@
 use Rattle.std.proofs.Common.{ℤ, ◌∙◌, w16, to_z, of_z}
 use Rattle.std.proofs.lemmas.Result.{MatchResult-from_err}
-use Rattle.pair.proofs.Joining.{both_tell, same_told, split_same, kept}
+use Rattle.pair.proofs.Joining.{both_tell, same_told}
+use Rattle.pair.proofs.Splitting.{split_same, kept}
 use Rattle.pair.proofs.PairShelf.tell.Goals as goal
 
 pub returns-in_err-tell-clause-told : goal.returns-in_err-tell-clause-told
