@@ -1,13 +1,11 @@
 -- What the turns of settling keep.
-use Rattle.std.proofs.Common.{◌≡◌, ℕ, ◌-◌, ◌<◌, true, List, [], ◌∷◌, ◌++◌, length, ℤ, Some, None, Result, sym, refl, ap, ◌∙◌, subst, arith, MatchResult}
-use Rattle.std.proofs.lemmas.List.{length_push}
+use Rattle.std.proofs.Common.{◌≡◌, ℕ, true, List, [], ◌∷◌, ◌++◌, ℤ, Some, None, Result, sym, ap, ◌∙◌, subst, MatchResult}
 use Rattle.told.specs.Trails.{items_of}
 use Rattle.literals.specs.declared.literal.Literal.{Literal}
 use Rattle.literals.specs.declared.refusal.Refusal.{Refusal}
 use Rattle.literals.specs.Literals.{number}
 use Rattle.literals.specs.Refusals.{first_failed, refusal_of}
 use Rattle.literals.specs.Settings.{free, set_of}
-use Rattle.lists.specs.Lists.{distinct}
 use Rattle.rules.specs.declared.Verdict.{Verdict}
 use Rattle.rules.specs.declared.Verdict.TheVariants.{Quiet, Broken, Forced}
 use Rattle.shelf.specs.Meanings.{Meaning, Answers}
@@ -16,7 +14,7 @@ use Rattle.told.proofs.Telling.{tells_free}
 use Rattle.runs.specs.declared.step.Step.{Step}
 use Rattle.runs.specs.Views.{literals_on, standing, step}
 use Rattle.runs.specs.Calls.{Settles, quiet, broken, locks}
-use Rattle.runs.proofs.Trails.{literals-push, count_once}
+use Rattle.runs.proofs.Trails.{literals-push}
 use Rattle.session.specs.declared.log.Log.{Log}
 use Rattle.session.specs.Logs.{Ran}
 
@@ -37,9 +35,6 @@ pub record Going (rules : List Meaning) (g h : Log) : Type 0 where
   pub state : h.state ≡ g.state
   pub level : h.level ≡ g.level
 
-pub start : (rules : List Meaning) (g : Log) → Going rules g g
-start rules g = record { settles = λ u v s. s; state = refl; level = refl }
-
 pub again : (rules : List Meaning) (g h i : Log) (r : ℕ) (l : Literal) → Going rules g h → Answers rules (standing (items_of h.trail)) (Forced r l)
     → items_of i.trail ≡ items_of h.trail ++ step l h.level (Some r) ∷ [] → i.state ≡ h.state → i.level ≡ h.level → Going rules g i
 again rules g h i r l o a steps state level =
@@ -49,13 +44,6 @@ again rules g h i r l o a steps state level =
       state = state ∙ o.state;
       level = level ∙ o.level;
     }
-
-pub shorter : (t u : List Step) (x : Step) → distinct (literals_on u) ≡ true → u ≡ t ++ x ∷ [] → 64 - length u < 64 - length t
-shorter t u x once e =
-    let a = length_push t x in
-    let b = ap length e in
-    let c = count_once u once in
-    omega arith
 
 -- what the shelf answers of its told literals it answers of the trail
 pub asked : (rules rules' : List Meaning) (ls : List Literal) (t : List Step) (v : Verdict) → ls ≡ literals_on t → rules ≡ rules' → Answers rules (set_of ls) v → Answers rules' (standing t) v
