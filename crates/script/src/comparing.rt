@@ -10,7 +10,7 @@ use shelf::Shelf;
 // order, two settled sessions do, and never is one settled and one clashed.
 pub fn alike<A: Shelf, B: Shelf>(first: &Session<A>, second: &Session<B>) -> bool
     ensures alike { Decides result (Alike (seen first.now) (seen second.now)) }
-    ensures agree { Match (A.Shelf.rules first.now.shelf) (B.Shelf.rules second.now.shelf) → Same (chosen_in (seen first.now).trail) (chosen_in (seen second.now).trail) → Agree (seen first.now) (seen second.now) }
+    ensures agree { Match (A.Shelf.rules first.now.tied.shelf) (B.Shelf.rules second.now.tied.shelf) → Same (chosen_in (seen first.now).trail) (chosen_in (seen second.now).trail) → Agree (seen first.now) (seen second.now) }
 {
     // The set of what stands tells how long the trail is and how many switches are free: no switch stands twice.
     first.level() == second.level() && first.standing() == second.standing()

@@ -22,7 +22,7 @@ pub fn replay<S: Shelf + Drop>(
     shelf: S,
     requests: &[Request],
 ) -> Result<Played<S>, AllocError>
-    ensures rules { IfOk result (λ x. S.Shelf.rules x.player.session.shelf ≡ S.Shelf.rules shelf) }
+    ensures rules { IfOk result (λ x. S.Shelf.rules x.player.session.tied.shelf ≡ S.Shelf.rules shelf) }
     ensures replayed { IfOk result (λ x. Replayed (S.Shelf.rules shelf) requests.now x.answers.items (seen x.player.session)) }
     ensures laws { OnOk result (Laws (S.Shelf.rules shelf)) }
 {

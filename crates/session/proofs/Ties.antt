@@ -1,5 +1,5 @@
 -- What each call does to a session.
-use Rattle.std.proofs.Common.{◌≡◌, ℕ, ◌+◌, ◌≤◌, true, cond, List, [], ◌∷◌, ◌++◌, length, take, ℤ, Some, None, Ok, Err, Result, sym, refl, ap, ◌∙◌, subst, arith, MatchResult}
+use Rattle.std.proofs.Common.{◌≡◌, ℕ, ◌+◌, ◌-◌, ◌≤◌, true, cond, List, [], ◌∷◌, ◌++◌, length, take, ℤ, Some, None, Option, Ok, Err, Result, sym, refl, ap, ◌∙◌, subst, arith, MatchResult}
 use Rattle.std.proofs.lemmas.List.{take-map, length-map, length_push}
 use Rattle.std.proofs.Math.Logic.{∥∥₁_elim, ∥∥₁_map}
 use Rattle.std.proofs.Props.{props}
@@ -26,7 +26,8 @@ use Rattle.runs.specs.declared.calls.Call.{Call}
 use Rattle.runs.specs.declared.calls.Call.TheVariants.{Settle, Choose, Back, BackFromClash, Close}
 use Rattle.runs.specs.declared.calls.Clash.{Clash}
 use Rattle.runs.specs.declared.calls.Reply.TheVariants as reply
-use Rattle.runs.specs.declared.calls.State.TheVariants.{Unsettled, Settled, Clashed, Shut}
+use Rattle.runs.specs.declared.calls.State.{State}
+use Rattle.runs.specs.declared.calls.State.TheVariants.{Unsettled, Settled, Shut}
 use Rattle.runs.specs.Views.{View, opened, literals_on, standing, step, up_to}
 use Rattle.runs.specs.Calls.{Answered, clash, checks, input_checks, state_checks, Settles, quiet, broken, locks, Does, refused, done as does}
 use Rattle.runs.specs.Runs.{event, Run, Traced, none, then}
@@ -90,12 +91,17 @@ cut_told E t u k ls after r c told q h =
 
 -- ---- what is done
 
+viewed : (w : View) (s : State) (k : ℕ) (t : List Step) → w.state ≡ s → w.level ≡ k → w.trail ≡ t → w ≡ record { state = s; level = k; trail = t }
+viewed w s k t p q r =
+    ap (λ (x : State). record { state = x; level = w.level; trail = w.trail }) p ∙ ap (λ (n : ℕ). record { state = s; level = n; trail = w.trail }) q
+    ∙ ap (λ (u : List Step). record { state = s; level = k; trail = u }) r
+
 -- the log after going back: what is left at level k is the front that it cuts to
 pub dropped : (rules : List Meaning) (g h : Log) (k : ℕ) → ∥ Reached rules (view_of g) ∥₁ → Cut k (items_of g.trail) (items_of h.trail) → h.state ≡ Settled → h.level ≡ k
     → view_of h ≡ record { state = Settled; level = k; trail = up_to k (items_of g.trail) }
 dropped rules g h k some c state level =
-    let left : items_of h.trail ≡ up_to k (items_of g.trail) = c.is ∙ ∥∥₁_elim some (hlevel props) (λ r. front_up_to rules k c.left (run_keeps rules r.run).trail c.front.few c.front.all c.front.last) in
-    cc
+    viewed (view_of h) Settled k (up_to k (items_of g.trail)) state level
+    (c.is ∙ ∥∥₁_elim some (hlevel props) (λ r. front_up_to rules k c.left (run_keeps rules r.run).trail c.front.few c.front.all c.front.last))
 
 pub back_done : (rules : List Meaning) (v w : View) (k : ℕ) → None ≡ first_failed (checks v (Back k)) → w ≡ record { state = Settled; level = k; trail = up_to k v.trail } → Does rules v (Back k) (Ok reply.Done) w
 back_done rules v w k p e = does (sym p) (record { answer = refl; view = e })
@@ -104,14 +110,13 @@ pub back_from_done : (rules : List Meaning) (v w : View) (x : Clash) (k : ℕ) �
     → w ≡ record { state = Settled; level = k; trail = up_to k v.trail } → Does rules v (BackFromClash x k) (Ok reply.Done) w
 back_from_done rules v w x k p e = does (sym p) (record { answer = refl; view = e })
 
-pub close_done : (rules : List Meaning) (v : View) (x : Clash) → None ≡ first_failed (checks v (Close x))
-    → Does rules v (Close x) (Ok reply.Done) (record { state = Shut; level = v.level; trail = v.trail })
-close_done rules v x p = does (sym p) (record { answer = refl; view = refl })
+pub close_done : (rules : List Meaning) (v w : View) (x : Clash) → None ≡ first_failed (checks v (Close x)) → w ≡ record v { state = Shut } → Does rules v (Close x) (Ok reply.Done) w
+close_done rules v w x p e = does (sym p) (record { answer = refl; view = e })
 
-pub choose_done : (rules : List Meaning) (v : View) (l : Literal) (n : ℤ) (u : List Step) → None ≡ first_failed (checks v (Choose n)) → number l ≡ n
-    → u ≡ v.trail ++ step l (v.level + 1) None ∷ [] → Does rules v (Choose n) (Ok reply.Done) (record { state = Unsettled; level = v.level + 1; trail = u })
-choose_done rules v l n u p e s =
-    does (sym p) (record { literal = l; named = e; answer = refl; view = ap (λ (t : List Step). record { state = Unsettled; level = v.level + 1; trail = t }) s })
+pub choose_done : (rules : List Meaning) (v w : View) (l : Literal) (n : ℤ) → None ≡ first_failed (checks v (Choose n)) → number l ≡ n → w.trail ≡ v.trail ++ step l (v.level + 1) None ∷ []
+    → w.state ≡ Unsettled → w.level ≡ v.level + 1 → Does rules v (Choose n) (Ok reply.Done) w
+choose_done rules v w l n p e s t k =
+    does (sym p) (record { literal = l; named = e; answer = refl; view = viewed w Unsettled (v.level + 1) _ t k s })
 
 -- a choice that is refused for what it names, or taken
 pub choose_outside : (v : View) (n : ℤ) (e : Refusal) → Some e ≡ cond (no_literal n) (Some OutOfRange) None → Some e ≡ first_failed (checks v (Choose n))
@@ -121,19 +126,19 @@ pub choose_free : (v : View) (l : Literal) (n : ℤ) → number l ≡ n → None
 choose_free v l n e p = (choosable v l (subst (λ (k : ℤ). None ≡ first_failed (checks v (Choose k))) (sym e) p)).free
 
 pub settle_quiet : (rules : List Meaning) (g h : Log) (n : ℕ) → None ≡ first_failed (checks (view_of g) Settle) → Ran rules g None h → length (items_of g.trail) + n ≡ length (items_of h.trail)
-    → Does rules (view_of g) Settle (Ok (reply.Grown n)) (record { state = Settled; level = h.level; trail = items_of h.trail })
+    → Does rules (view_of g) Settle (Ok (reply.Grown n)) (view_of h)
 settle_quiet rules g h n p r e =
-    does (sym p) (record { verdict = Quiet; settles = r.settles; said = (n, e, refl); state = refl; level = r.level })
+    does (sym p) (record { verdict = Quiet; settles = r.settles; said = (n, e, refl); state = r.state; level = r.level })
 
 pub settle_broken : (rules : List Meaning) (g h : Log) (r c : ℕ) → None ≡ first_failed (checks (view_of g) Settle) → Ran rules g (Some r) h → OfRule rules r (λ m. c ≡ m.letter)
-    → Does rules (view_of g) Settle (Ok (reply.Clash (clash r h.level) c)) (record { state = Clashed r; level = h.level; trail = items_of h.trail })
+    → Does rules (view_of g) Settle (Ok (reply.Clash (clash r h.level) c)) (view_of h)
 settle_broken rules g h r c p q o =
     does (sym p)
     (record {
       verdict = Broken r;
       settles = q.settles;
       said = record { rule = o.rule; numbered = o.numbered; is = ap (λ (k : ℕ). Ok (reply.Clash (clash r k) c)) q.level ∙ ap (λ (k : ℕ). Ok (reply.Clash (clash r g.level) k)) o.is };
-      state = refl;
+      state = q.state;
       level = q.level;
     })
 
@@ -151,3 +156,13 @@ broken_there rules rules' g h r e same q p =
     let here = p ∙ ap (λ (ms : List Meaning). first_failed (letter_checks ms r)) same in
     let z : ◌≡◌ {A = ℕ} 0 1 = cc in
     absurd (omega arith)
+
+-- whatever came of settling, some call did it
+pub ran_does : (rules : List Meaning) (g h : Log) (r : Option ℕ) → None ≡ first_failed (checks (view_of g) Settle) → Ran rules g r h → (a : Answered) × Does rules (view_of g) Settle a (view_of h)
+ran_does rules g h None p q =
+    let longer = settles_longer rules g.level q.settles in
+    let n = length (items_of h.trail) - length (items_of g.trail) in
+    (Ok (reply.Grown n), settle_quiet rules g h n p q (omega (arith, longer)))
+ran_does rules g h (Some r) p q =
+    let a = settles_answer rules g.level q.settles in
+    (_, settle_broken rules g h r a.rule.letter p q (record { rule = a.rule; numbered = a.numbered; is = refl }))

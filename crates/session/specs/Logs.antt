@@ -12,7 +12,7 @@ use Rattle.rules.specs.Scans.{Numbered}
 use Rattle.shelf.specs.Meanings.{Meaning}
 use Rattle.runs.specs.declared.step.Step.{Step}
 use Rattle.runs.specs.Views.{View, opened, up_to}
-use Rattle.runs.specs.Calls.{Settles}
+use Rattle.runs.specs.Calls.{Settles, state_by}
 use Rattle.runs.specs.Runs.{Event, Run}
 use Rattle.session.specs.declared.log.Log.{Log}
 
@@ -44,5 +44,5 @@ ending (Some r) = Broken r
 -- settling led from g to h
 pub record Ran (rules : List Meaning) (g : Log) (r : Option ℕ) (h : Log) : Type 0 where
   pub settles : Settles rules g.level (items_of g.trail) (items_of h.trail) (ending r)
-  pub state : h.state ≡ g.state
+  pub state : h.state ≡ state_by (ending r)
   pub level : h.level ≡ g.level

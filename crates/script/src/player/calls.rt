@@ -14,7 +14,7 @@ use shelf::Shelf;
 impl<S: Shelf> Player<S> {
     // Opens a session over the shelf. No receipt is out.
     pub fn open(shelf: S) -> Player<S>
-        ensures rules { S.Shelf.rules result.session.shelf ≡ S.Shelf.rules shelf }
+        ensures rules { S.Shelf.rules result.session.tied.shelf ≡ S.Shelf.rules shelf }
         ensures view { seen result.session ≡ opened }
         ensures laws { Laws (S.Shelf.rules shelf) }
     {
@@ -33,8 +33,8 @@ impl<S: Shelf> Player<S> {
     // Carries out a request and gives its answer. A request that wants a receipt takes the one that is out; where none is, it is passed over,
     // and there is no answer.
     pub fn play(self, request: Request) -> (Player<S>, Option<Answer>)
-        ensures rules { S.Shelf.rules result.0.session.shelf ≡ S.Shelf.rules self.session.shelf }
-        ensures plays { Plays (S.Shelf.rules self.session.shelf) (seen self.session) request result.1 (seen result.0.session) }
+        ensures rules { S.Shelf.rules result.0.session.tied.shelf ≡ S.Shelf.rules self.session.tied.shelf }
+        ensures plays { Plays (S.Shelf.rules self.session.tied.shelf) (seen self.session) request result.1 (seen result.0.session) }
     {
         let Player { mut session, held } = self;
         let (held, answer) = call(&mut session, held, request);
@@ -43,7 +43,7 @@ impl<S: Shelf> Player<S> {
 
     // Ends the session and gives its shelf back; where a clash stands, the session is closed first.
     pub fn finish(self) -> S
-        ensures rules { S.Shelf.rules result ≡ S.Shelf.rules self.session.shelf }
+        ensures rules { S.Shelf.rules result ≡ S.Shelf.rules self.session.tied.shelf }
     {
         let Player { mut session, held } = self;
         if let Some(receipt) = held {

@@ -18,8 +18,8 @@ pub(crate) fn call<S: Shelf>(
 ) -> (Option<Receipt>, Option<Answer>)
     requires hand { Hand (seen session.old) held }
     ensures hand { Hand (seen session.new) result.0 }
-    ensures rules { S.Shelf.rules session.new.shelf ≡ S.Shelf.rules session.old.shelf }
-    ensures plays { Plays (S.Shelf.rules session.old.shelf) (seen session.old) request result.1 (seen session.new) }
+    ensures rules { S.Shelf.rules session.new.tied.shelf ≡ S.Shelf.rules session.old.tied.shelf }
+    ensures plays { Plays (S.Shelf.rules session.old.tied.shelf) (seen session.old) request result.1 (seen session.new) }
 {
     match request {
         Request::Settle => match held {

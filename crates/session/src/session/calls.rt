@@ -7,64 +7,60 @@ ghost use Rattle.session.specs.Outcomes.{done, settled, spent};
 ghost use Rattle.session.specs.Sessions.{seen};
 ghost use Rattle.shelf.specs.Meanings.{Every, Lawful};
 
-use crate::log::Log;
 use crate::receipt::{Outcome, Receipt, Returned};
 use crate::session::Session;
-use crate::session::moves::{drop_above, propagate, put};
+use crate::tied::Tied;
 use literals::{Literal, Refusal};
-use runs::{Call, Clash, State, Step, laws_over_runs};
+use runs::{Call, Clash, laws_over_runs};
 use shelf::Shelf;
 
 impl<S: Shelf> Session<S> {
     // Takes back all that the shelf was told. Whatever is then called, the laws hold.
-    pub fn open(mut shelf: S) -> Session<S>
-        ensures rules { S.Shelf.rules result.shelf ≡ S.Shelf.rules shelf }
+    pub fn open(shelf: S) -> Session<S>
+        ensures rules { S.Shelf.rules result.tied.shelf ≡ S.Shelf.rules shelf }
         ensures view { seen result ≡ opened }
         ensures laws { Laws (S.Shelf.rules shelf) }
     {
-        let _ = shelf.take_back(0);
         Session {
-            shelf,
-            log: Log::new(),
+            tied: Tied::new(shelf),
         }
     }
 
     // Does nothing: what it ensures holds of the session's rules, and after every list of calls over them.
     pub fn laws(&self)
-        ensures lawful { Every (S.Shelf.rules self.now.shelf) Lawful }
-        ensures laws { Laws (S.Shelf.rules self.now.shelf) }
+        ensures lawful { Every (S.Shelf.rules self.now.tied.shelf) Lawful }
+        ensures laws { Laws (S.Shelf.rules self.now.tied.shelf) }
     {
-        laws_over_runs(&self.shelf);
+        laws_over_runs(&self.tied.shelf);
     }
 
     // Gives the shelf back, as it stands.
     pub fn into_shelf(self) -> S
-        ensures shelf { result ≡ self.shelf }
+        ensures shelf { result ≡ self.tied.shelf }
     {
-        self.shelf
+        self.tied.shelf
     }
 
     // Puts on the trail what is forced, until all is quiet, or a rule is broken. Refused by 28 or 22.
     pub fn settle(&mut self) -> Result<Outcome, Refusal>
-        ensures rules { S.Shelf.rules self.new.shelf ≡ S.Shelf.rules self.old.shelf }
-        ensures does { Does (S.Shelf.rules self.old.shelf) (seen self.old) Call.Settle (settled result) (seen self.new) }
+        ensures rules { S.Shelf.rules self.new.tied.shelf ≡ S.Shelf.rules self.old.tied.shelf }
+        ensures does { Does (S.Shelf.rules self.old.tied.shelf) (seen self.old) Call.Settle (settled result) (seen self.new) }
         ensures same { OnErr result (self.new ≡ self.old) }
     {
-        self.log.admit(Call::Settle)?;
-        let before = self.log.trail.count();
-        match propagate(&mut self.shelf, &mut self.log) {
+        self.tied.log.admit(Call::Settle)?;
+        let before = self.tied.log.trail.count();
+        match self.tied.settle() {
             None => {
-                self.log.state = State::Settled;
-                Ok(Outcome::Quiet((self.log.trail.count() - before) as u8))
+                let grown = self.tied.log.trail.count() - before;
+                Ok(Outcome::Quiet(grown as u8))
             }
             Some(rule) => {
-                let Ok(letter) = self.shelf.letter_of(rule) else {
+                let Ok(letter) = self.tied.shelf.letter_of(rule) else {
                     unreachable()
                 };
-                self.log.state = State::Clashed(rule);
                 let clash = Clash {
                     rule,
-                    level: self.log.level,
+                    level: self.tied.log.level,
                 };
                 Ok(Outcome::Clash(Receipt { clash, letter }))
             }
@@ -73,59 +69,48 @@ impl<S: Shelf> Session<S> {
 
     // Chooses the literal of this number, a level higher. Refused by 1, 28, 22, 23, 24 or 25.
     pub fn choose(&mut self, n: i32) -> Result<(), Refusal>
-        ensures rules { S.Shelf.rules self.new.shelf ≡ S.Shelf.rules self.old.shelf }
-        ensures does { Does (S.Shelf.rules self.old.shelf) (seen self.old) (Call.Choose n) (done result) (seen self.new) }
+        ensures rules { S.Shelf.rules self.new.tied.shelf ≡ S.Shelf.rules self.old.tied.shelf }
+        ensures does { Does (S.Shelf.rules self.old.tied.shelf) (seen self.old) (Call.Choose n) (done result) (seen self.new) }
         ensures same { OnErr result (self.new ≡ self.old) }
     {
         let literal = Literal::try_from(n)?;
-        self.log.admit(Call::Choose(n))?;
-        let level = self.log.level + 1;
-        put(
-            &mut self.shelf,
-            &mut self.log,
-            Step {
-                literal,
-                level,
-                rule: None,
-            },
-        );
-        self.log.level = level;
-        self.log.state = State::Unsettled;
+        self.tied.log.admit(Call::Choose(n))?;
+        self.tied.choose(literal);
         Ok(())
     }
 
     // Drops what stands above level k. Refused by 13, 28, 22 or 26.
     pub fn back(&mut self, k: u32) -> Result<(), Refusal>
-        ensures rules { S.Shelf.rules self.new.shelf ≡ S.Shelf.rules self.old.shelf }
-        ensures does { Does (S.Shelf.rules self.old.shelf) (seen self.old) (Call.Back k) (done result) (seen self.new) }
+        ensures rules { S.Shelf.rules self.new.tied.shelf ≡ S.Shelf.rules self.old.tied.shelf }
+        ensures does { Does (S.Shelf.rules self.old.tied.shelf) (seen self.old) (Call.Back k) (done result) (seen self.new) }
         ensures same { OnErr result (self.new ≡ self.old) }
     {
-        self.log.admit(Call::Back(k))?;
-        drop_above(&mut self.shelf, &mut self.log, k as u8);
+        self.tied.log.admit(Call::Back(k))?;
+        self.tied.drop_above(k as u8);
         Ok(())
     }
 
     // Drops what stands above level k, and takes the receipt. Refused by 13, 28, 27 or 26: the receipt is given back.
     pub fn back_from_clash(&mut self, receipt: Receipt, k: u32) -> Result<(), Returned>
-        ensures rules { S.Shelf.rules self.new.shelf ≡ S.Shelf.rules self.old.shelf }
-        ensures does { Does (S.Shelf.rules self.old.shelf) (seen self.old) (Call.BackFromClash receipt.clash k) (spent result) (seen self.new) }
+        ensures rules { S.Shelf.rules self.new.tied.shelf ≡ S.Shelf.rules self.old.tied.shelf }
+        ensures does { Does (S.Shelf.rules self.old.tied.shelf) (seen self.old) (Call.BackFromClash receipt.clash k) (spent result) (seen self.new) }
         ensures same { OnErr result (self.new ≡ self.old) }
         ensures receipt { IfErr result (λ e. e.receipt ≡ receipt) }
     {
         self.spend(Call::BackFromClash(receipt.clash, k), receipt)?;
-        drop_above(&mut self.shelf, &mut self.log, k as u8);
+        self.tied.drop_above(k as u8);
         Ok(())
     }
 
     // Shuts the session, and takes the receipt; the trail stays. Refused by 28 or 27: the receipt is given back.
     pub fn close(&mut self, receipt: Receipt) -> Result<(), Returned>
-        ensures rules { S.Shelf.rules self.new.shelf ≡ S.Shelf.rules self.old.shelf }
-        ensures does { Does (S.Shelf.rules self.old.shelf) (seen self.old) (Call.Close receipt.clash) (spent result) (seen self.new) }
+        ensures rules { S.Shelf.rules self.new.tied.shelf ≡ S.Shelf.rules self.old.tied.shelf }
+        ensures does { Does (S.Shelf.rules self.old.tied.shelf) (seen self.old) (Call.Close receipt.clash) (spent result) (seen self.new) }
         ensures same { OnErr result (self.new ≡ self.old) }
         ensures receipt { IfErr result (λ e. e.receipt ≡ receipt) }
     {
         self.spend(Call::Close(receipt.clash), receipt)?;
-        self.log.state = State::Shut;
+        self.tied.shut();
         Ok(())
     }
 
@@ -133,7 +118,7 @@ impl<S: Shelf> Session<S> {
     fn spend(&self, call: Call, receipt: Receipt) -> Result<(), Returned>
         ensures { MatchResult result (λ _. None ≡ first_failed (checks (seen self.now) call)) (λ e. (Some e.refusal ≡ first_failed (checks (seen self.now) call)) × (e.receipt ≡ receipt)) }
     {
-        if let Err(refusal) = self.log.admit(call) {
+        if let Err(refusal) = self.tied.log.admit(call) {
             return Err(Returned { refusal, receipt });
         }
         receipt.spend();

@@ -21,19 +21,19 @@ impl<S: Shelf> Session<S> {
     pub fn state(&self) -> State
         ensures { result ≡ (seen self.now).state }
     {
-        self.log.state
+        self.tied.log.state
     }
 
     pub fn level(&self) -> u8
         ensures { result ≡ (seen self.now).level }
     {
-        self.log.level
+        self.tied.log.level
     }
 
     pub fn trail_len(&self) -> usize
         ensures { result ≡ length (seen self.now).trail }
     {
-        self.log.trail.count()
+        self.tied.log.trail.count()
     }
 
     // A place of the trail, from 1. Refused by 13.
@@ -44,14 +44,14 @@ impl<S: Shelf> Session<S> {
         if place < 1 || place > self.trail_len() {
             return Err(Refusal::NoSuchPlace);
         }
-        Ok(self.log.trail.as_slice()[place - 1])
+        Ok(self.tied.log.trail.as_slice()[place - 1])
     }
 
     // The set of the literals that stand.
     pub fn standing(&self) -> &Setting
         ensures { result.now ≡ set-standing (seen self.now).trail }
     {
-        self.log.trail.set()
+        self.tied.log.trail.set()
     }
 
     pub fn free_count(&self) -> u32
@@ -73,8 +73,8 @@ impl<S: Shelf> Session<S> {
     // 29 where it is free.
     pub fn why(&self, switch: u32) -> Result<Why, Refusal>
         ensures refused { refusal_of result ≡ first_failed (why_checks (seen self.now).trail switch) }
-        ensures explains { IfOk result (λ w. Explains (S.Shelf.rules self.now.shelf) (seen self.now).trail switch w.rule w.word) }
+        ensures explains { IfOk result (λ w. Explains (S.Shelf.rules self.now.tied.shelf) (seen self.now).trail switch w.rule w.word) }
     {
-        explain(&self.shelf, self.log.trail.as_slice(), switch)
+        explain(&self.tied.shelf, self.tied.log.trail.as_slice(), switch)
     }
 }

@@ -7,17 +7,17 @@ pub returns-then-level-clause-alike : goal.returns-then-level-clause-alike
 returns-then-level-clause-alike g c =
     let x = c.args.first.now in
     let y = c.args.second.now in
-    alike_by (seen x) (seen y) x.log.trail.once y.log.trail.once c.standing.result.now c.standing-then-level.result.now c.eq.result
+    alike_by (seen x) (seen y) x.tied.log.trail.once y.tied.log.trail.once c.standing.result.now c.standing-then-level.result.now c.eq.result
     (sym c.level.ensures ∙ c.if-level.true ∙ c.level-2.ensures) c.standing.ensures c.standing-then-level.ensures c.eq.ensures
 
 pub returns-then-level-clause-agree : goal.returns-then-level-clause-agree
 returns-then-level-clause-agree g c =
     let x = c.args.first.now in
     let y = c.args.second.now in
-    reached_agree _ _ (seen x) (seen y) (g.met.A.Shelf.lawful x.shelf) (g.met.B.Shelf.lawful y.shelf) x.reached y.reached
+    reached_agree _ _ (seen x) (seen y) (g.met.A.Shelf.lawful x.tied.shelf) (g.met.B.Shelf.lawful y.tied.shelf) x.reached y.reached
 
 pub returns-else-level-clause-agree : goal.returns-else-level-clause-agree
 returns-else-level-clause-agree g c =
     let x = c.args.first.now in
     let y = c.args.second.now in
-    reached_agree _ _ (seen x) (seen y) (g.met.A.Shelf.lawful x.shelf) (g.met.B.Shelf.lawful y.shelf) x.reached y.reached
+    reached_agree _ _ (seen x) (seen y) (g.met.A.Shelf.lawful x.tied.shelf) (g.met.B.Shelf.lawful y.tied.shelf) x.reached y.reached

@@ -6,7 +6,7 @@ use Rattle.script.proofs.replaying.replay.Given as goal
 abbrev pub invariant-loop-request : goal.invariant-loop-request
 invariant-loop-request g l =
     let m = g.S.Shelf in
-    (m.rules l.player.session.shelf ≡ m.rules l.initial.player.session.shelf)
-    × SoFar (m.rules l.initial.player.session.shelf) (take l.request-index l.requests) (vec_items l.answers) (seen l.player.session)
+    (m.rules l.player.session.tied.shelf ≡ m.rules l.initial.player.session.tied.shelf)
+    × SoFar (m.rules l.initial.player.session.tied.shelf) (take l.request-index l.requests) (vec_items l.answers) (seen l.player.session)
     × (vec_len l.answers ≡ l.request-index)
     × (length l.requests ≤ vec_capacity l.answers)

@@ -9,11 +9,11 @@ pub invariant_of-self : goal.invariant_of-self
 invariant_of-self g c =
     let x = c.args.self.now in
     let drop = c.drop_above.ensures in
-    let e = dropped _ x.log c.drop_above.new.log c.args.k x.reached drop.cut drop.state drop.level in
-    record { told = drop.told; reached = next _ (seen x) x.reached _ _ _ _ (back_done _ (seen x) _ c.args.k c.in_ok-admit.ensures e) drop.rules }
+    let e = dropped _ x.tied.log c.drop_above.new.self.log c.args.k x.reached drop.cut drop.state drop.level in
+    record { reached = next _ (seen x) x.reached _ _ _ _ (back_done _ (seen x) _ c.args.k c.in_ok-admit.ensures e) drop.rules }
 
 pub returns-clause-does : goal.returns-clause-does
 returns-clause-does g c =
     let x = c.args.self.now in
     let drop = c.drop_above.ensures in
-    back_done _ (seen x) _ c.args.k c.in_ok-admit.ensures (dropped _ x.log c.drop_above.new.log c.args.k x.reached drop.cut drop.state drop.level)
+    back_done _ (seen x) _ c.args.k c.in_ok-admit.ensures (dropped _ x.tied.log c.drop_above.new.self.log c.args.k x.reached drop.cut drop.state drop.level)

@@ -1,5 +1,6 @@
 use Rattle.std.proofs.Common.{◌∙◌, w32, arith}
 use Rattle.std.proofs.lemmas.Int.{to_z-of_z}
+use Rattle.session.specs.Logs.{view_of}
 use Rattle.session.specs.Sessions.{seen}
 use Rattle.session.proofs.Ties.{refused_done, choose_outside, choose_free, choose_done, level_small, next}
 use Rattle.session.proofs.session.Session.choose.Goals as goal
@@ -13,19 +14,22 @@ returns-in_err-admit-clause-does g c =
     let r = c.from_residual-in_err-admit in
     refused_done _ (seen c.args.self.now) _ r.result _ r.ensures.1 (simp (to_z-of_z, c.ranges.n) at c.in_err-admit.ensures)
 
-pub overflow_add-level : goal.overflow_add-level
-overflow_add-level g c = let x = c.args.self.now in let h = level_small _ (seen x) x.reached in omega arith
+pub choose-requires-clause-free : goal.choose-requires-clause-free
+choose-requires-clause-free g c = choose_free (seen c.args.self.now) c.in_ok-literal.literal _ c.in_ok-literal.ensures.literal c.in_ok-admit.ensures
 
-pub put-requires-clause-free : goal.put-requires-clause-free
-put-requires-clause-free g c = choose_free (seen c.args.self.now) c.in_ok-literal.literal _ c.in_ok-literal.ensures.literal c.in_ok-admit.ensures
+pub choose-requires-clause-low : goal.choose-requires-clause-low
+choose-requires-clause-low g c = let x = c.args.self.now in let h = level_small _ (seen x) x.reached in omega arith
 
 pub invariant_of-self : goal.invariant_of-self
 invariant_of-self g c =
     let x = c.args.self.now in
-    let put = c.put.ensures in
-    let d = choose_done _ (seen x) c.in_ok-literal.literal c.args.n _ (simp (to_z-of_z, c.ranges.n) at c.in_ok-admit.ensures) (c.in_ok-literal.ensures.literal ∙ to_z-of_z w32 c.args.n c.ranges.n) put.steps in
-    record { told = put.told; reached = next _ (seen x) x.reached _ _ _ _ d put.rules }
+    let chose = c.choose.ensures in
+    let d = choose_done _ (seen x) (view_of c.choose.new.self.log) c.in_ok-literal.literal c.args.n (simp (to_z-of_z, c.ranges.n) at c.in_ok-admit.ensures)
+    (c.in_ok-literal.ensures.literal ∙ to_z-of_z w32 c.args.n c.ranges.n) chose.steps chose.state chose.level in
+    record { reached = next _ (seen x) x.reached _ _ _ _ d chose.rules }
 
 pub returns-clause-does : goal.returns-clause-does
 returns-clause-does g c =
-    choose_done _ (seen c.args.self.now) c.in_ok-literal.literal c.args.n _ (simp (to_z-of_z, c.ranges.n) at c.in_ok-admit.ensures) (c.in_ok-literal.ensures.literal ∙ to_z-of_z w32 c.args.n c.ranges.n) c.put.ensures.steps
+    let chose = c.choose.ensures in
+    choose_done _ (seen c.args.self.now) (view_of c.choose.new.self.log) c.in_ok-literal.literal c.args.n (simp (to_z-of_z, c.ranges.n) at c.in_ok-admit.ensures)
+    (c.in_ok-literal.ensures.literal ∙ to_z-of_z w32 c.args.n c.ranges.n) chose.steps chose.state chose.level

@@ -1,0 +1,25 @@
+use Rattle.std.proofs.Common.{refl, ◌∙◌}
+use Rattle.rules.specs.declared.Verdict.TheVariants.{Quiet, Broken, Forced}
+use Rattle.runs.specs.Calls.{quiet, broken}
+use Rattle.session.proofs.Settling.{again, asked}
+use Rattle.session.proofs.tied.Tied.settle.Goals as goal
+
+pub returns-in-Quiet-clause-ran : goal.returns-in-Quiet-clause-ran
+returns-in-Quiet-clause-ran g c =
+    let i = c.loop-self.invariant in
+    record { settles = i.1.settles _ Quiet (quiet (asked _ _ _ _ Quiet c.loop-self.self.told i.0 c.in-Quiet.ensures)); state = refl; level = i.1.level }
+
+pub returns-in-Broken-clause-ran : goal.returns-in-Broken-clause-ran
+returns-in-Broken-clause-ran g c =
+    let i = c.loop-self.invariant in
+    let v = Broken c.in-Broken.rule in
+    record { settles = i.1.settles _ v (broken (asked _ _ _ _ v c.loop-self.self.told i.0 c.in-Broken.ensures)); state = refl; level = i.1.level }
+
+pub loop-self-preserved : goal.loop-self-preserved
+loop-self-preserved g c =
+    let i = c.loop-self.invariant in
+    let x = c.loop-self.self in
+    let put = c.put.ensures in
+    let r = c.in-Forced.rule in
+    let l = c.in-Forced.literal in
+    (put.rules ∙ i.0, again _ _ x.log _ r l i.1 (asked _ _ _ _ (Forced r l) x.told i.0 c.in-Forced.ensures) put.steps put.level)
