@@ -4,6 +4,7 @@
 ghost use Rattle.std.specs.Prelude.{◌≡◌, []};
 ghost use Rattle.plain.specs.Plains.{plain_rules};
 ghost use Rattle.plain.specs.Laws.{plain_few, plain_lawful};
+ghost use Rattle.told.specs.Laws.{told_distinct};
 ghost use Rattle.told.specs.Lists.{told_of};
 
 use literals::Refusal;
@@ -43,7 +44,7 @@ impl<'a, R: Rule> Shelf for Plain<'a, R> {
 
     ghost lawful = { λ p. plain_lawful R.Rule.breaks R.Rule.mentions p.records.now R.Rule.grows R.Rule.ignores };
 
-    ghost once = { λ p. p.told.once };
+    ghost once = { λ p. told_distinct p.told };
 
     fn tell(&mut self, n: i16) -> Result<(), Refusal> {
         self.told.tell(n)

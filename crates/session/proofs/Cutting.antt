@@ -1,16 +1,9 @@
 -- What dropping the steps above a level leans on.
-use Rattle.std.proofs.Common.{◌≡◌, ℕ, zero, suc, ◌-◌, ◌<◌, ◌≤◌, Bool, true, false, cond, leb, List, [], ◌∷◌, ◌++◌, length, get_or, take, refl, sym, ap, ◌∙◌, subst, arith}
+use Rattle.std.proofs.Common.{◌≡◌, ℕ, zero, suc, ◌-◌, ◌<◌, ◌≤◌, Bool, false, cond, leb, List, [], ◌∷◌, length, get_or, take, refl, sym, ap, ◌∙◌, subst, arith}
 use Rattle.std.proofs.lemmas.Bool.Decides.{nat_tests}
-use Rattle.std.proofs.lemmas.List.{take-map}
-use Rattle.literals.specs.declared.setting.Setting.{Setting}
-use Rattle.literals.specs.Settings.{minus}
-use Rattle.lists.specs.Lists.{distinct}
-use Rattle.lists.proofs.Sets.{distinct-take}
 use Rattle.rules.proofs.Numbers.{numbered_at, numbered_low}
-use Rattle.told.proofs.Telling.{taken_out}
 use Rattle.runs.specs.declared.step.Step.{Step}
-use Rattle.runs.specs.Views.{literals_on, standing, up_to}
-use Rattle.runs.proofs.Trails.{literals-push}
+use Rattle.runs.specs.Views.{up_to}
 use Rattle.session.specs.Logs.{Front}
 
 -- what is above level k from place n on is not at level k or below
@@ -31,13 +24,3 @@ front_from k t n few high low =
       all = none_from k t n high;
       last = λ x m. let p = numbered_low m in subst (λ (y : Step). y.level ≤ k) (numbered_at m x) (low x (omega arith));
     }
-
--- the last literal taken out of the set
-pub step_out : (t u : List Step) (x : Step) (s s' : Setting) → t ≡ u ++ x ∷ [] → distinct (literals_on t) ≡ true → s ≡ standing t → s' ≡ minus s x.literal
-    → (distinct (literals_on u) ≡ true) × (s' ≡ standing u)
-step_out t u x s s' e d p q = taken_out (literals_on t) (literals_on u) x.literal s s' (ap literals_on e ∙ literals-push u x) d p q
-
--- no switch stands twice on a front
-pub cut_once : (t u : List Step) (n : ℕ) → u ≡ take n t → distinct (literals_on t) ≡ true → distinct (literals_on u) ≡ true
-cut_once t u n e d =
-    ap (λ (x : List Step). distinct (literals_on x)) e ∙ ap distinct (sym (take-map (λ (x : Step). x.literal) n t)) ∙ distinct-take n (literals_on t) d

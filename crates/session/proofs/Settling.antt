@@ -1,14 +1,11 @@
 -- What the turns of settling keep.
-use Rattle.std.proofs.Common.{◌≡◌, ℕ, ◌<◌, true, List, [], ◌∷◌, ◌++◌, length, ℤ, Some, Result, sym, ap, ◌∙◌, subst, arith, MatchResult}
-use Rattle.bounded.specs.Held.{held}
+use Rattle.std.proofs.Common.{◌≡◌, ℕ, true, List, [], ◌∷◌, ◌++◌, ℤ, Some, Result, sym, ap, ◌∙◌, subst, MatchResult}
+use Rattle.told.specs.Trails.{items_of}
 use Rattle.literals.specs.declared.literal.Literal.{Literal}
 use Rattle.literals.specs.declared.refusal.Refusal.{Refusal}
-use Rattle.literals.specs.declared.setting.Setting.{Setting}
 use Rattle.literals.specs.Literals.{number}
 use Rattle.literals.specs.Refusals.{first_failed, refusal_of}
-use Rattle.literals.specs.Settings.{free, plus, set_of}
-use Rattle.literals.proofs.Freedom.{free_count-plus}
-use Rattle.lists.specs.Lists.{distinct}
+use Rattle.literals.specs.Settings.{free, set_of}
 use Rattle.rules.specs.declared.Verdict.{Verdict}
 use Rattle.rules.specs.declared.Verdict.TheVariants.{Forced}
 use Rattle.shelf.specs.Meanings.{Meaning, Answers}
@@ -17,27 +14,8 @@ use Rattle.told.proofs.Telling.{tells_free}
 use Rattle.runs.specs.declared.step.Step.{Step}
 use Rattle.runs.specs.Views.{literals_on, standing, step}
 use Rattle.runs.specs.Calls.{Settles, locks}
-use Rattle.runs.proofs.Trails.{literals-push, standing-push, once_more, count_once}
+use Rattle.runs.proofs.Trails.{literals-push}
 use Rattle.session.specs.declared.log.Log.{Log}
-
--- ---- one literal more
-
-module _ (t : List Step) (x : Step) (once : distinct (literals_on t) ≡ true) (f : free (standing t) x.literal ≡ true) where
-  roomy : length t < 64
-  roomy =
-      let a = count_once t once in
-      let b = free_count-plus (standing t) x.literal f in
-      omega arith
-
-  module _ (u : List Step) (items : length t < 64 → u ≡ t ++ x ∷ []) where
-    pub put_steps : u ≡ t ++ x ∷ []
-    put_steps = items roomy
-
-    pub put_set : (s s' : Setting) → s ≡ standing t → s' ≡ plus s x.literal → s' ≡ standing u
-    put_set s s' e p = p ∙ ap (λ (y : Setting). plus y x.literal) e ∙ sym (standing-push t x) ∙ ap standing (sym put_steps)
-
-    pub put_once : distinct (literals_on u) ≡ true
-    put_once = ap (λ (y : List Step). distinct (literals_on y)) put_steps ∙ once_more t x f once
 
 -- what a shelf has that was told the literals of the trail
 pub told_free : (t : List Step) (ls : List Literal) (l : Literal) → ls ≡ literals_on t → free (standing t) l ≡ true → free (set_of ls) l ≡ true
@@ -52,13 +30,13 @@ put_told E t u x ls after n r e f is q c st =
 
 -- g is the log where settling began, h the log now: what settles from now on settles from there
 pub record Going (rules : List Meaning) (g h : Log) : Type 0 where
-  pub settles : (u : List Step) (v : Verdict) → Settles rules g.level (held h.steps) u v → Settles rules g.level (held g.steps) u v
+  pub settles : (u : List Step) (v : Verdict) → Settles rules g.level (items_of h.trail) u v → Settles rules g.level (items_of g.trail) u v
   pub level : h.level ≡ g.level
 
-pub again : (rules : List Meaning) (g h i : Log) (r : ℕ) (l : Literal) → Going rules g h → Answers rules (standing (held h.steps)) (Forced r l)
-    → held i.steps ≡ held h.steps ++ step l h.level (Some r) ∷ [] → i.level ≡ h.level → Going rules g i
+pub again : (rules : List Meaning) (g h i : Log) (r : ℕ) (l : Literal) → Going rules g h → Answers rules (standing (items_of h.trail)) (Forced r l)
+    → items_of i.trail ≡ items_of h.trail ++ step l h.level (Some r) ∷ [] → i.level ≡ h.level → Going rules g i
 again rules g h i r l o a steps level =
-    let e : held i.steps ≡ held h.steps ++ step l g.level (Some r) ∷ [] = steps ∙ ap (λ (n : ℕ). held h.steps ++ step l n (Some r) ∷ []) o.level in
+    let e : items_of i.trail ≡ items_of h.trail ++ step l g.level (Some r) ∷ [] = steps ∙ ap (λ (n : ℕ). items_of h.trail ++ step l n (Some r) ∷ []) o.level in
     record { settles = λ u v s. o.settles u v (locks a (subst (λ (t : List Step). Settles rules g.level t u v) e s)); level = level ∙ o.level }
 
 -- what the shelf answers of its told literals it answers of the trail

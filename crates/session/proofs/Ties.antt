@@ -5,7 +5,7 @@ use Rattle.std.proofs.Math.Logic.{∥∥₁_elim, ∥∥₁_map}
 use Rattle.std.proofs.Props.{props}
 use Rattle.std.specs.Coded.{le_prop}
 use Rattle.std.specs.Result.{IsErrAnd}
-use Rattle.bounded.specs.Held.{held}
+use Rattle.told.specs.Trails.{items_of}
 use Rattle.literals.specs.declared.literal.Literal.{Literal}
 use Rattle.literals.specs.declared.refusal.Refusal.{Refusal}
 use Rattle.literals.specs.declared.refusal.Refusal.TheVariants.{OutOfRange}
@@ -97,10 +97,10 @@ viewed w s k t p q r =
     ∙ ap (λ (u : List Step). record { state = s; level = k; trail = u }) r
 
 -- the log after going back: what is left at level k is the front that it cuts to
-pub dropped : (rules : List Meaning) (g h : Log) (k : ℕ) → ∥ Reached rules (view_of g) ∥₁ → Cut k (held g.steps) (held h.steps) → h.state ≡ Settled → h.level ≡ k
-    → view_of h ≡ record { state = Settled; level = k; trail = up_to k (held g.steps) }
+pub dropped : (rules : List Meaning) (g h : Log) (k : ℕ) → ∥ Reached rules (view_of g) ∥₁ → Cut k (items_of g.trail) (items_of h.trail) → h.state ≡ Settled → h.level ≡ k
+    → view_of h ≡ record { state = Settled; level = k; trail = up_to k (items_of g.trail) }
 dropped rules g h k some c state level =
-    viewed (view_of h) Settled k (up_to k (held g.steps)) state level
+    viewed (view_of h) Settled k (up_to k (items_of g.trail)) state level
     (c.is ∙ ∥∥₁_elim some (hlevel props) (λ r. front_up_to rules k c.left (run_keeps rules r.run).trail c.front.few c.front.all c.front.last))
 
 pub back_done : (rules : List Meaning) (v w : View) (k : ℕ) → None ≡ first_failed (checks v (Back k)) → w ≡ record { state = Settled; level = k; trail = up_to k v.trail } → Does rules v (Back k) (Ok reply.Done) w
@@ -125,7 +125,7 @@ choose_outside v n e q = failed_before (input_checks (Choose n)) (state_checks v
 pub choose_free : (v : View) (l : Literal) (n : ℤ) → number l ≡ n → None ≡ first_failed (checks v (Choose n)) → free (standing v.trail) l ≡ true
 choose_free v l n e p = (choosable v l (subst (λ (k : ℤ). None ≡ first_failed (checks v (Choose k))) (sym e) p)).free
 
-pub settle_quiet : (rules : List Meaning) (g h : Log) (n : ℕ) → None ≡ first_failed (checks (view_of g) Settle) → Ran rules g None h → length (held g.steps) + n ≡ length (held h.steps)
+pub settle_quiet : (rules : List Meaning) (g h : Log) (n : ℕ) → None ≡ first_failed (checks (view_of g) Settle) → Ran rules g None h → length (items_of g.trail) + n ≡ length (items_of h.trail)
     → Does rules (view_of g) Settle (Ok (reply.Grown n)) (view_of h)
 settle_quiet rules g h n p r e =
     does (sym p) (record { verdict = Quiet; settles = r.settles; said = (n, e, refl); state = r.state; level = r.level })
@@ -161,7 +161,7 @@ broken_there rules rules' g h r e same q p =
 pub ran_does : (rules : List Meaning) (g h : Log) (r : Option ℕ) → None ≡ first_failed (checks (view_of g) Settle) → Ran rules g r h → (a : Answered) × Does rules (view_of g) Settle a (view_of h)
 ran_does rules g h None p q =
     let longer = settles_longer rules g.level q.settles in
-    let n = length (held h.steps) - length (held g.steps) in
+    let n = length (items_of h.trail) - length (items_of g.trail) in
     (Ok (reply.Grown n), settle_quiet rules g h n p q (omega (arith, longer)))
 ran_does rules g h (Some r) p q =
     let a = settles_answer rules g.level q.settles in

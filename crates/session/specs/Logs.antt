@@ -5,7 +5,7 @@
 --   Cut       what is left of a trail at a level
 --   Ran       what came of settling
 use Rattle.std.specs.Prelude.{◌≡◌, ℕ, ◌≤◌, List, length, take, Some, None, Option}
-use Rattle.bounded.specs.Held.{held}
+use Rattle.told.specs.Trails.{items_of}
 use Rattle.rules.specs.declared.Verdict.{Verdict}
 use Rattle.rules.specs.declared.Verdict.TheVariants.{Quiet, Broken}
 use Rattle.rules.specs.Scans.{Numbered}
@@ -17,7 +17,7 @@ use Rattle.runs.specs.Runs.{Event, Run}
 use Rattle.session.specs.declared.log.Log.{Log}
 
 abbrev pub view_of : Log → View
-view_of g = record { state = g.state; level = g.level; trail = held g.steps }
+view_of g = record { state = g.state; level = g.level; trail = items_of g.trail }
 
 -- the first n have all that is at level k or below, and the last of them is
 pub record Front (k : ℕ) (t : List Step) (n : ℕ) : Type 0 where
@@ -43,6 +43,6 @@ ending (Some r) = Broken r
 
 -- settling led from g to h
 pub record Ran (rules : List Meaning) (g : Log) (r : Option ℕ) (h : Log) : Type 0 where
-  pub settles : Settles rules g.level (held g.steps) (held h.steps) (ending r)
+  pub settles : Settles rules g.level (items_of g.trail) (items_of h.trail) (ending r)
   pub state : h.state ≡ state_by (ending r)
   pub level : h.level ≡ g.level

@@ -1,5 +1,5 @@
 ghost use Rattle.std.specs.Prelude.{◌≡◌};
-ghost use Rattle.bounded.specs.Held.{held};
+ghost use Rattle.told.specs.Trails.{items_of};
 ghost use Rattle.runs.specs.Views.{literals_on};
 
 mod moves;
@@ -12,5 +12,5 @@ use shelf::Shelf;
 pub struct Tied<S: Shelf> {
     pub(crate) shelf: S,
     pub(crate) log: Log,
-    ghost told: { S.Shelf.told shelf ≡ literals_on (held log.steps) },
+    ghost told: { S.Shelf.told shelf ≡ literals_on (items_of log.trail) },
 }

@@ -36,7 +36,7 @@ tell_by ls l m n s e at same r = ap (λ (t : Setting). first_failed (free_checks
 pub untaken : (s : Setting) (l : Literal) → None ≡ first_failed (taken_checks s l) → free s l ≡ true
 untaken s l h = let p = passed (taken_checks s l) h in and_from _ _ (ap not p.0) (ap not p.1.0)
 
--- ---- a literal told
+-- ---- one literal more
 
 module _ (ls ls' : List Literal) (l : Literal) (s s' : Setting) (same : s ≡ set_of ls) (d : distinct ls ≡ true) (f : free s l ≡ true)
     (items : length ls < 64 → ls' ≡ ls ++ l ∷ []) (grown : s' ≡ plus s l) where
@@ -82,6 +82,13 @@ back_all xs k n le ge = ⊎_elim short long (cases_lt n (length xs))
 
     long : length xs ≤ n → take k xs ≡ take n xs
     long h = take_all k xs (omega arith) ∙ sym (take_all n xs h)
+
+-- ---- a literal pushed, or refused with nothing changed, is one told, or refused with nothing changed
+
+pub appended : {E F : Type 0} (ls after : List Literal) (l : Literal) (n : ℤ) (r : Result (Unit {0}) Refusal) → number l ≡ n → (E → F)
+    → MatchResult r (λ _. after ≡ ls ++ l ∷ []) (λ _. E) → MatchResult r (λ _. Appended ls n after) (λ _. F)
+appended ls after l n (Ok u) is f q = record { literal = l; is = is; end = q }
+appended ls after l n (Err x) is f q = f q
 
 -- ---- a shelf that is told a free literal, or takes back no more than it was told, does not refuse
 

@@ -1,2 +1,4 @@
+pub mod Laws
 pub mod Lists
 pub mod Tellings
+pub mod Trails

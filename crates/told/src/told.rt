@@ -1,18 +1,10 @@
-ghost use Rattle.std.specs.Prelude.{◌≡◌, true};
-ghost use Rattle.bounded.specs.Held.{held};
-ghost use Rattle.lists.specs.Lists.{distinct};
-ghost use Rattle.literals.specs.Settings.{set_of};
-
 mod methods;
 
-use bounded::Bounded;
-use literals::{Literal, Setting};
+use crate::trail::Trail;
+use literals::Literal;
 
-// Literals in the order of telling, no switch twice, and the set of them.
+// The literals that a shelf was told, in order.
 #[derive(Drop)]
 pub struct Told {
-    literals: Bounded<Literal, 64>,
-    set: Setting,
-    ghost agrees: { set ≡ set_of (held literals) },
-    ghost once: { distinct (held literals) ≡ true },
+    trail: Trail<Literal>,
 }

@@ -1,8 +1,10 @@
 ghost use Rattle.std.specs.Prelude.{◌≡◌, not, ◌&&◌, if◌then◌else◌, Some, None, ◌==◌, nat_le};
 ghost use Rattle.literals.specs.Refusals.{first_failed, refusal_of};
 ghost use Rattle.runs.specs.Calls.{checks, input_checks, is_clashed, is_shut, is_unsettled, wrong_receipt};
+ghost use Rattle.runs.specs.Views.{standing};
 ghost use Rattle.session.specs.Logs.{view_of};
 ghost use Rattle.told.specs.Tellings.{free_checks};
+ghost use Rattle.told.specs.Trails.{items_of};
 
 use crate::log::Log;
 use literals::{Literal, Refusal};
@@ -108,9 +110,9 @@ impl Log {
 
     // Refused by 24 where the literal stands, by 25 where its opposite does.
     fn check_free(&self, n: i32) -> Result<(), Refusal>
-        ensures { refusal_of result ≡ first_failed (free_checks self.now.standing n) }
+        ensures { refusal_of result ≡ first_failed (free_checks (standing (items_of self.now.trail)) n) }
     {
         let literal = Literal::try_from(n)?;
-        self.standing.check_free(literal)
+        self.trail.set().check_free(literal)
     }
 }

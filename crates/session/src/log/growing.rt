@@ -1,15 +1,14 @@
 ghost use Rattle.std.specs.Prelude.{◌≡◌, ℕ, ◌-◌, ◌<◌, ◌≤◌, true, [], ◌∷◌, ◌++◌, length, slice_index_or, take};
 ghost use Rattle.runs.specs.declared.step.Step.{Step};
-ghost use Rattle.bounded.specs.Held.{held};
-ghost use Rattle.lists.specs.Lists.{distinct};
+ghost use Rattle.told.specs.Trails.{items_of};
 ghost use Rattle.literals.specs.Settings.{free};
-ghost use Rattle.runs.specs.Views.{literals_on, opened, standing as set-standing};
+ghost use Rattle.runs.specs.Views.{opened, standing};
 ghost use Rattle.session.specs.Logs.{Front, view_of};
 
 use crate::log::Log;
-use bounded::Bounded;
-use literals::{Literal, Setting};
+use literals::Literal;
 use runs::{State, Step};
+use told::Trail;
 
 // How many steps are left at level k, from the first on: the levels of a trail rise.
 fn front(steps: &[Step], k: u8) -> usize
@@ -34,8 +33,7 @@ impl Log {
             rule: None,
         };
         Log {
-            steps: Bounded::new(none),
-            standing: Setting::new(),
+            trail: Trail::new(none),
             state: State::Unsettled,
             level: 0,
         }
@@ -43,38 +41,24 @@ impl Log {
 
     // Puts a free literal on the trail.
     pub(crate) fn push(&mut self, step: Step)
-        requires { free (set-standing (held self.old.steps)) step.literal ≡ true }
-        ensures steps { held self.new.steps ≡ held self.old.steps ++ step ∷ [] }
+        requires { free (standing (items_of self.old.trail)) step.literal ≡ true }
+        ensures steps { items_of self.new.trail ≡ items_of self.old.trail ++ step ∷ [] }
         ensures state { self.new.state ≡ self.old.state }
         ensures level { self.new.level ≡ self.old.level }
     {
-        // There is room: each literal has one of 64 switches to itself.
-        let _ = self.steps.push(step);
-        self.standing = self.standing.with(step.literal);
+        // It is not refused, for the literal is free.
+        let _ = self.trail.push(step);
     }
 
     // Drops the steps above level k, and tells how many are left.
     pub(crate) fn cut(&mut self, k: u8) -> usize
-        ensures front { Front k (held self.old.steps) result }
-        ensures steps { held self.new.steps ≡ take result (held self.old.steps) }
+        ensures front { Front k (items_of self.old.trail) result }
+        ensures steps { items_of self.new.trail ≡ take result (items_of self.old.trail) }
         ensures state { self.new.state ≡ self.old.state }
         ensures level { self.new.level ≡ self.old.level }
     {
-        let left = front(self.steps.as_slice(), k);
-        self.standing = self.set_of_first(left);
-        self.steps.truncate(left);
+        let left = front(self.trail.as_slice(), k);
+        self.trail.truncate(left);
         left
-    }
-
-    // The set without the literals of the steps from place n on, the latest taken out first.
-    fn set_of_first(&self, n: usize) -> Setting
-        requires { n ≤ length (held self.now.steps) }
-        ensures { result ≡ set-standing (take n (held self.now.steps)) }
-    {
-        let mut set = self.standing;
-        for step in self.steps.as_slice()[n..].iter().rev() {
-            set = set.without(step.literal);
-        }
-        set
     }
 }

@@ -48,10 +48,10 @@ impl<S: Shelf> Session<S> {
         ensures same { OnErr result (self.new ≡ self.old) }
     {
         self.tied.log.admit(Call::Settle)?;
-        let before = self.tied.log.steps.len();
+        let before = self.tied.log.trail.count();
         match self.tied.settle() {
             None => {
-                let grown = self.tied.log.steps.len() - before;
+                let grown = self.tied.log.trail.count() - before;
                 Ok(Outcome::Quiet(grown as u8))
             }
             Some(rule) => {

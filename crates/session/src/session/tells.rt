@@ -33,7 +33,7 @@ impl<S: Shelf> Session<S> {
     pub fn trail_len(&self) -> usize
         ensures { result ≡ length (seen self.now).trail }
     {
-        self.tied.log.steps.len()
+        self.tied.log.trail.count()
     }
 
     // A place of the trail, from 1. Refused by 13.
@@ -44,14 +44,14 @@ impl<S: Shelf> Session<S> {
         if place < 1 || place > self.trail_len() {
             return Err(Refusal::NoSuchPlace);
         }
-        Ok(self.tied.log.steps.as_slice()[place - 1])
+        Ok(self.tied.log.trail.as_slice()[place - 1])
     }
 
     // The set of the literals that stand.
     pub fn standing(&self) -> &Setting
         ensures { result.now ≡ set-standing (seen self.now).trail }
     {
-        &self.tied.log.standing
+        self.tied.log.trail.set()
     }
 
     pub fn free_count(&self) -> u32
@@ -75,6 +75,6 @@ impl<S: Shelf> Session<S> {
         ensures refused { refusal_of result ≡ first_failed (why_checks (seen self.now).trail switch) }
         ensures explains { IfOk result (λ w. Explains (S.Shelf.rules self.now.tied.shelf) (seen self.now).trail switch w.rule w.word) }
     {
-        explain(&self.tied.shelf, self.tied.log.steps.as_slice(), switch)
+        explain(&self.tied.shelf, self.tied.log.trail.as_slice(), switch)
     }
 }

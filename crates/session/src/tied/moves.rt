@@ -1,5 +1,5 @@
 ghost use Rattle.std.specs.Prelude.{◌≡◌, ◌+◌, ◌<◌, true, [], ◌∷◌, ◌++◌, None};
-ghost use Rattle.bounded.specs.Held.{held};
+ghost use Rattle.told.specs.Trails.{items_of};
 ghost use Rattle.literals.specs.Settings.{free};
 ghost use Rattle.runs.specs.Views.{opened, standing, step as stepped};
 ghost use Rattle.session.specs.Logs.{Cut, Ran, view_of};
@@ -27,9 +27,9 @@ impl<S: Shelf> Tied<S> {
 
     // Tells the shelf a free literal, and puts it on the trail.
     fn put(&mut self, step: Step)
-        requires { free (standing (held self.old.log.steps)) step.literal ≡ true }
+        requires { free (standing (items_of self.old.log.trail)) step.literal ≡ true }
         ensures rules { S.Shelf.rules self.new.shelf ≡ S.Shelf.rules self.old.shelf }
-        ensures steps { held self.new.log.steps ≡ held self.old.log.steps ++ step ∷ [] }
+        ensures steps { items_of self.new.log.trail ≡ items_of self.old.log.trail ++ step ∷ [] }
         ensures state { self.new.log.state ≡ self.old.log.state }
         ensures level { self.new.log.level ≡ self.old.log.level }
     {
@@ -39,10 +39,10 @@ impl<S: Shelf> Tied<S> {
 
     // Puts a free literal on the trail as chosen, a level higher. What follows from it is not on the trail yet.
     pub(crate) fn choose(&mut self, literal: Literal)
-        requires free { free (standing (held self.old.log.steps)) literal ≡ true }
+        requires free { free (standing (items_of self.old.log.trail)) literal ≡ true }
         requires low { self.old.log.level < 255 }
         ensures rules { S.Shelf.rules self.new.shelf ≡ S.Shelf.rules self.old.shelf }
-        ensures steps { held self.new.log.steps ≡ held self.old.log.steps ++ stepped literal (self.old.log.level + 1) None ∷ [] }
+        ensures steps { items_of self.new.log.trail ≡ items_of self.old.log.trail ++ stepped literal (self.old.log.level + 1) None ∷ [] }
         ensures state { self.new.log.state ≡ State.Unsettled }
         ensures level { self.new.log.level ≡ self.old.log.level + 1 }
     {
@@ -86,7 +86,7 @@ impl<S: Shelf> Tied<S> {
     // Drops what stands above level k, and is settled there.
     pub(crate) fn drop_above(&mut self, k: u8)
         ensures rules { S.Shelf.rules self.new.shelf ≡ S.Shelf.rules self.old.shelf }
-        ensures cut { Cut k (held self.old.log.steps) (held self.new.log.steps) }
+        ensures cut { Cut k (items_of self.old.log.trail) (items_of self.new.log.trail) }
         ensures state { self.new.log.state ≡ State.Settled }
         ensures level { self.new.log.level ≡ k }
     {

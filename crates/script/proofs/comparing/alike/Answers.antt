@@ -7,7 +7,7 @@ pub returns-then-level-clause-alike : goal.returns-then-level-clause-alike
 returns-then-level-clause-alike g c =
     let x = c.args.first.now in
     let y = c.args.second.now in
-    alike_by (seen x) (seen y) x.tied.log.once y.tied.log.once c.standing.result.now c.standing-then-level.result.now c.eq.result
+    alike_by (seen x) (seen y) x.tied.log.trail.once y.tied.log.trail.once c.standing.result.now c.standing-then-level.result.now c.eq.result
     (sym c.level.ensures ∙ c.if-level.true ∙ c.level-2.ensures) c.standing.ensures c.standing-then-level.ensures c.eq.ensures
 
 pub returns-then-level-clause-agree : goal.returns-then-level-clause-agree

@@ -1,13 +1,8 @@
-use Rattle.bounded.specs.Held.{held}
-use Rattle.bounded.proofs.Lengths.{pushed_on}
-use Rattle.session.proofs.Settling.{put_set, put_once}
+use Rattle.runs.specs.Views.{standing}
+use Rattle.told.specs.Trails.{items_of}
+use Rattle.told.proofs.Trails.{pushed_free}
 use Rattle.session.proofs.log.Log.push.Goals as goal
 
-pub invariant_of-self : goal.invariant_of-self
-invariant_of-self c =
-    let g = c.args.self.now in
-    let t = held g.steps in
-    let x = c.args.step in
-    let after = held c.push.new.self in
-    let pushed = pushed_on c.push.result t after x c.push.ensures.room c.push.ensures.pushed in
-    record { set = put_set t x g.once c.requires after pushed g.standing c.with-self.result g.set c.with-self.ensures.words; once = put_once t x g.once c.requires after pushed }
+pub returns-clause-steps : goal.returns-clause-steps
+returns-clause-steps c =
+    pushed_free _ _ (standing (items_of c.args.self.now.trail)) c.args.step.literal c.push.result c.requires c.push.ensures.refused c.push.ensures.pushed

@@ -1,5 +1,5 @@
 use Rattle.std.proofs.Common.{◌≡◌, ◌+◌, ◌-◌, length, arith}
-use Rattle.bounded.specs.Held.{held}
+use Rattle.told.specs.Trails.{items_of}
 use Rattle.session.specs.Sessions.{seen}
 use Rattle.session.proofs.Ties.{refused_settle, settle_quiet, settles_longer, broken_there, ran_does, next}
 use Rattle.session.proofs.session.Session.settle.Goals as goal
@@ -14,7 +14,7 @@ invariant_of-self g c =
     record { reached = next _ (seen x) x.reached _ _ _ _ (ran_does _ x.tied.log c.settle.new.self.log c.settle.result c.in_ok-admit.ensures settle.ran).1 settle.rules }
 
 pub overflow_sub-grown : goal.overflow_sub-grown
-overflow_sub-grown g c = let longer = settles_longer _ _ c.in-None.ensures.ran.settles in omega (arith, longer, c.len-before.ensures, c.len.ensures)
+overflow_sub-grown g c = let longer = settles_longer _ _ c.in-None.ensures.ran.settles in omega (arith, longer, c.count-before.ensures, c.count.ensures)
 
 pub unreachable-requires : goal.unreachable-requires
 unreachable-requires g c =
@@ -29,5 +29,5 @@ returns-in-None-clause-does g c =
     let h = c.settle.new.self.log in
     let p = c.in-None.ensures in
     let longer = settles_longer _ _ p.ran.settles in
-    let grown : length (held x.steps) + (c.len.result - c.len-before.result) ≡ length (held h.steps) = omega (arith, longer, c.len-before.ensures, c.len.ensures) in
-    settle_quiet _ x h (c.len.result - c.len-before.result) c.in_ok-admit.ensures p.ran grown
+    let grown : length (items_of x.trail) + (c.count.result - c.count-before.result) ≡ length (items_of h.trail) = omega (arith, longer, c.count-before.ensures, c.count.ensures) in
+    settle_quiet _ x h (c.count.result - c.count-before.result) c.in_ok-admit.ensures p.ran grown

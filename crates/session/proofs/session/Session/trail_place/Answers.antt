@@ -1,6 +1,6 @@
 use Rattle.std.proofs.Common.{◌≡◌, ◌≤◌, Bool, false, cond, length, Some, None, sym, ap, arith}
 use Rattle.std.proofs.lemmas.Bool.{or_from, le-ltb}
-use Rattle.bounded.specs.Held.{held}
+use Rattle.told.specs.Trails.{items_of}
 use Rattle.literals.specs.declared.refusal.Refusal.TheVariants.{NoSuchPlace}
 use Rattle.session.specs.Positions.{no_place}
 use Rattle.session.proofs.Telling.{place_there}
@@ -8,10 +8,10 @@ use Rattle.session.proofs.session.Session.trail_place.Goals as goal
 
 pub returns : goal.returns
 returns g c =
-    let t = held c.args.self.now.tied.log.steps in
+    let t = items_of c.args.self.now.tied.log.trail in
     let i = c.args.place in
     let low = c.if-place-lt1.false in
-    let high : c.args.place ≤ length (held c.args.self.now.tied.log.steps) = omega (arith, c.if-place-trail_len.false, c.trail_len.ensures) in
+    let high : c.args.place ≤ length (items_of c.args.self.now.tied.log.trail) = omega (arith, c.if-place-trail_len.false, c.trail_len.ensures) in
     let there : no_place t i ≡ false = or_from _ _ (le-ltb i 1 low) (le-ltb (length t) i high) in
     record {
       refused = ap (λ (b : Bool). cond b (Some NoSuchPlace) None) (sym there);

@@ -1,5 +1,5 @@
 use Rattle.std.proofs.Common.{◌≡◌, ℤ, sym, ◌∙◌, w16, to_z, of_z, rules}
-use Rattle.bounded.specs.Held.{held}
+use Rattle.told.specs.Trails.{items_of}
 use Rattle.session.proofs.Settling.{put_told}
 use Rattle.session.proofs.tied.Tied.put.Goals as goal
 
@@ -9,4 +9,4 @@ invariant_of-self g c =
     let told = c.tell.ensures in
     let m : ℤ = to_z w16 (of_z w16 c.from.result) in
     let is : m ≡ c.from.result = search rules in
-    record { told = put_told _ (held x.log.steps) _ c.args.step _ _ m c.tell.result x.told c.requires (sym (is ∙ c.from.ensures)) told.refused told.told c.push.ensures.steps }
+    record { told = put_told _ (items_of x.log.trail) _ c.args.step _ _ m c.tell.result x.told c.requires (sym (is ∙ c.from.ensures)) told.refused told.told c.push.ensures.steps }

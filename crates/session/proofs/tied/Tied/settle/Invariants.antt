@@ -1,5 +1,5 @@
 use Rattle.std.proofs.Common.{◌≡◌, ◌-◌, length}
-use Rattle.bounded.specs.Held.{held}
+use Rattle.told.specs.Trails.{items_of}
 use Rattle.session.proofs.Settling.{Going}
 use Rattle.session.proofs.tied.Tied.settle.Given as goal
 
@@ -9,4 +9,4 @@ invariant-loop-self g l =
     (rules l.self.shelf ≡ rules l.initial.self.shelf) × Going (rules l.initial.self.shelf) l.initial.self.log l.self.log
 
 abbrev pub decreases-loop-self : goal.decreases-loop-self
-decreases-loop-self g l = 64 - length (held l.self.log.steps)
+decreases-loop-self g l = 64 - length (items_of l.self.log.trail)

@@ -1,29 +1,12 @@
-use Rattle.std.proofs.Common.{◌≡◌, ℤ, sym, ◌∙◌, w16, to_z, of_z, rules}
-use Rattle.std.proofs.lemmas.Result.{err_from_is_err_and}
-use Rattle.bounded.specs.Held.{held}
-use Rattle.bounded.proofs.Lengths.{pushed_on}
-use Rattle.told.proofs.Telling.{tell_by, untaken, told_list, told_set, told_once}
+use Rattle.std.proofs.Common.{◌≡◌, ℤ, map, sym, ap, ◌∙◌, w16, to_z, of_z, rules}
+use Rattle.std.proofs.lemmas.List.{map-id}
+use Rattle.literals.specs.declared.literal.Literal.{Literal}
+use Rattle.literals.specs.Settings.{set_of}
+use Rattle.told.specs.declared.told.Told.{Told}
+use Rattle.told.specs.declared.trail.Trail.{Trail}
+use Rattle.told.specs.Lists.{told_of}
+use Rattle.told.proofs.Telling.{tell_by, appended}
 use Rattle.told.proofs.told.Told.tell.Goals as goal
-
-pub returns-in_err-check_free-clause-refused : goal.returns-in_err-check_free-clause-refused
-returns-in_err-check_free-clause-refused c =
-    let t = c.args.self.now in
-    let e = c.in_ok-l.ensures in
-    let m : ℤ = to_z w16 (of_z w16 c.args.n) in
-    let is : m ≡ c.args.n = search rules in
-    let p = err_from_is_err_and c.from_residual-in_err-check_free.result c.from_residual-in_err-check_free.ensures.1 in
-    rw (p.1, p.2) (c.in_err-check_free.ensures ∙ sym (tell_by (held t.literals) c.in_ok-l.l m c.args.n t.set is e.literal t.agrees e.refused))
-
-pub invariant_of-self : goal.invariant_of-self
-invariant_of-self c =
-    let t = c.args.self.now in
-    let l = c.in_ok-l.l in
-    let f = untaken t.set l c.in_ok-check_free.ensures in
-    let items = pushed_on c.push.result (held t.literals) (held c.push.new.self) l c.push.ensures.room c.push.ensures.pushed in
-    record {
-      agrees = told_set (held t.literals) (held c.push.new.self) l t.set c.with-self.result t.agrees t.once f items c.with-self.ensures.words;
-      once = told_once (held t.literals) (held c.push.new.self) l t.set c.with-self.result t.agrees t.once f items c.with-self.ensures.words;
-    }
 
 pub returns : goal.returns
 returns c =
@@ -32,14 +15,10 @@ returns c =
     let e = c.in_ok-l.ensures in
     let m : ℤ = to_z w16 (of_z w16 c.args.n) in
     let is : m ≡ c.args.n = search rules in
-    let f = untaken t.set l c.in_ok-check_free.ensures in
-    let items = pushed_on c.push.result (held t.literals) (held c.push.new.self) l c.push.ensures.room c.push.ensures.pushed in
+    let said = map (λ (k : Literal). k) (told_of t) in
+    let whole : Trail Literal _ → Told = λ u. record { trail = u } in
+    let same = ap set_of (map-id (told_of t)) in
     record {
-      refused = c.in_ok-check_free.ensures ∙ sym (tell_by (held t.literals) l m c.args.n t.set is e.literal t.agrees e.refused);
-      told =
-          record {
-            literal = l;
-            is = e.literal ∙ is;
-            end = told_list (held t.literals) (held c.push.new.self) l t.set c.with-self.result t.agrees t.once f items c.with-self.ensures.words;
-          };
+      refused = c.push.ensures.refused ∙ sym (tell_by (told_of t) l m c.args.n (set_of said) is e.literal same e.refused);
+      told = appended (told_of t) _ l c.args.n c.push.result (e.literal ∙ is) (ap whole) c.push.ensures.pushed;
     }
