@@ -1,14 +1,18 @@
 -- What is checked of weights and literals before a rule is made of them.
-use Rattle.std.proofs.Common.{◌≡◌, ℕ, ◌+◌, ◌<◌, ◌≤◌, Bool, true, false, cond, not, ◌||◌, eqb, ltb, List, [], ◌∷◌, ◌++◌, length, get_or, drop, ℤ, Some, None, sym, ap, ◌∙◌, ap₂, arith}
+use Rattle.std.proofs.Common.{◌≡◌, ℕ, suc, ◌+◌, ◌-◌, ◌*◌, ◌<◌, ◌≤◌, Fits, w16, rules, sum, map, refl, Bool, true, false, cond, not, ◌||◌, eqb, ltb, List, [], ◌∷◌, ◌++◌, length, get_or, drop, ℤ, Some, None, sym, ap, ◌∙◌, ap₂, arith}
 use Rattle.std.proofs.lemmas.List.{at_drop_more}
+use Rattle.std.proofs.lemmas.List.Sums.{sum_by-cons}
 use Rattle.std.proofs.lemmas.Bool.{eq-eqb, ne_eqb, eqb-true, lt-ltb, le-ltb, not-false, or_left, or_right, or_from, or_parts}
 use Rattle.std.proofs.lemmas.Bool.Decides.{nat_tests}
+use Rattle.literals.specs.declared.literal.Literal.{Literal}
 use Rattle.literals.specs.declared.refusal.Refusal.{Refusal}
 use Rattle.literals.specs.declared.refusal.Refusal.TheVariants.{OutOfRange, TermCount, Weight, SwitchTwice}
+use Rattle.literals.specs.Literals.{opposite}
+use Rattle.linear.specs.declared.term.Term.{Term}
 use Rattle.literals.specs.Refusals.{Check, check, first_failed}
 use Rattle.literals.proofs.Refused.{failed_before, passed_before, past-check}
 use Rattle.lists.specs.Lists.{wrong_length, some_outside, switch_twice, read_checks}
-use Rattle.linear.specs.Terms.{bad_after, bad_weights}
+use Rattle.linear.specs.Terms.{bad_after, bad_weights, literals, weights, turned}
 use Rattle.linear.specs.Linears.{wrong_count, terms_checks}
 
 -- ---- the weights, one after the other
@@ -26,6 +30,24 @@ module _ (ws : List ℕ) (i before : ℕ) (lt : i < length ws) where
 
   pub good_more : (get_or ws i 0 ≡ 0 → ⊥) → get_or ws i 0 ≤ before → bad_after before (drop i ws) ≡ bad_after (get_or ws i 0) (drop (i + 1) ws)
   good_more z h = bad_more ws i before lt ∙ ap (λ (b : Bool). b || bad_after (get_or ws i 0) (drop (i + 1) ws)) (or_from _ _ (ne_eqb _ _ z) (le-ltb _ _ h))
+
+-- ---- the terms made of them
+
+pub sum_few : (ws : List ℕ) (n : ℕ) → length ws ≤ n → ((i : ℕ) → Fits w16 (get_or ws i 0)) → sum ws ≤ 65535 * n
+sum_few [] n le fits = omega arith
+sum_few (w ∷ ws) n le fits =
+    let one : Fits w16 w = fits 0 in
+    let low : w ≤ 65535 = search rules in
+    let rest = sum_few ws (n - 1) (omega arith) (λ i. fits (suc i)) in
+    omega (arith, sum_by-cons (λ x. x) w ws)
+
+pub turned_weights : (ts : List Term) → weights (map turned ts) ≡ weights ts
+turned_weights [] = refl
+turned_weights (t ∷ ts) = ap (λ (ws : List ℕ). t.weight ∷ ws) (turned_weights ts)
+
+pub turned_literals : (ts : List Term) → literals (map turned ts) ≡ map opposite (literals ts)
+turned_literals [] = refl
+turned_literals (t ∷ ts) = ap (λ (ls : List Literal). opposite t.literal ∷ ls) (turned_literals ts)
 
 -- ---- the checks, in their order
 

@@ -17,7 +17,7 @@ use Rattle.linear.specs.Terms.{literals, bad_weights}
 use Rattle.linear.specs.Slacks.{broken}
 
 abbrev pub terms_of : Linear → List Term
-terms_of r = held r.terms
+terms_of r = held r.terms.items
 
 -- no terms, more than 16, or two lists of unequal length
 abbrev pub wrong_count : List ℕ → List ℤ → Bool

@@ -1,6 +1,7 @@
 -- Lists of terms, each a weight and a literal.
 --   literals      the literals of the terms
 --   weights       their weights
+--   turned        a term on the opposite literal
 --   bad_weights   a weight is 0, above 65,535, or above the one before it
 --   counted       the weights of the terms whose literal is not false
 --   weight_of     the weight of a literal
@@ -16,6 +17,10 @@ literals ts = map (λ t. t.literal) ts
 
 abbrev pub weights : List Term → List ℕ
 weights ts = map (λ t. t.weight) ts
+
+-- the same weight on the opposite literal
+abbrev pub turned : Term → Term
+turned t = record { weight = t.weight; literal = opposite t.literal }
 
 -- a weight is 0 or above the one before it, and before the first stands `before`
 abbrev pub bad_after : ℕ → List ℕ → Bool

@@ -5,6 +5,7 @@
 // above the slack.
 mod linear;
 mod term;
+mod terms;
 
 pub use linear::Linear;
 pub use term::Term;

@@ -12,6 +12,12 @@ pub struct Term {
 }
 
 impl Term {
+    // What stands in a place that holds nothing yet.
+    pub(crate) const NONE: Term = Term {
+        weight: 0,
+        literal: Literal::FIRST,
+    };
+
     // The weight, unless the literal is false.
     pub(crate) fn counts(&self, set: &Setting) -> u16
         ensures { result ≡ counts set.now self.now }

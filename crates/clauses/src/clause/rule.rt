@@ -39,6 +39,7 @@ impl Rule for Clause {
         ensures forces { Decides result (Forces (clause_broken self.now) set.now l) }
         ensures alone { result ≡ alone (literals_in self.now) set.now l }
     {
+        // The trait's own body, which has to stand here for the clause `alone`.
         if self.is_broken(set) || !set.is_free(l) {
             return false;
         }

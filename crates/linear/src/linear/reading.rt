@@ -1,19 +1,11 @@
 ghost use Rattle.std.specs.Prelude.{◌≡◌, ◌≤◌, length};
 ghost use Rattle.linear.specs.Linears.{terms_of};
 ghost use Rattle.linear.specs.Slacks.{FirstAbove, slack};
-ghost use Rattle.linear.specs.Terms.{counted, weight_of};
+ghost use Rattle.linear.specs.Terms.{weight_of};
 
 use crate::linear::Linear;
 use crate::term::Term;
 use literals::{Literal, Setting};
-
-// The weights of the terms whose literal is not false.
-fn counted(terms: &[Term], set: &Setting) -> u32
-    requires { length terms.now ≤ 16 }
-    ensures sum { result ≡ counted set.now terms.now }
-{
-    terms.iter().map(|t| u32::from(t.counts(set))).sum()
-}
 
 impl Linear {
     pub fn terms(&self) -> &[Term]
@@ -34,7 +26,7 @@ impl Linear {
     pub fn slack(&self, set: &Setting) -> i64
         ensures { result ≡ slack (terms_of self.now) self.now.degree set.now }
     {
-        i64::from(counted(self.terms(), set)) - i64::from(self.degree)
+        i64::from(self.terms.counted(set)) - i64::from(self.degree)
     }
 
     // Of the free literals whose weight is above the number, the one of the lowest switch; none where the number is below 0.
@@ -44,6 +36,7 @@ impl Linear {
         if number < 0 {
             return None;
         }
+        // A `fold`: of what `min_by_key` picks the library has no lemma.
         self.terms()
             .iter()
             .fold(None, |best, t| t.improve(set, number, best))

@@ -17,5 +17,5 @@ returns c =
     let low : lt_z z (pos 0) ≡ false = let h = c.if-number-lt0.false in grind (arith, ints) in
     let best = fold_over fronts (λ x. x.now) _ (Lowest p) _ (λ ys a x b f' h k. (lowest_improved p ys x.now a b (search rules) h, search rules))
     c.iter.result ts _ c.fold.result (slice_gives c.iter.result) (All-nil (λ t. p t ≡ false)) c.fold.ensures.ran in
-    first_above (terms_of c.args.self.now) z c.args.set.now c.args.self.now.once low c.fold.result
+    first_above (terms_of c.args.self.now) z c.args.set.now c.args.self.now.terms.once low c.fold.result
     (subst (λ (xs : List Term). Lowest p xs c.fold.result) (c.iter.ensures.rest ∙ c.terms.ensures.value) best)

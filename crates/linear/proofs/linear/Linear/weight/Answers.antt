@@ -15,4 +15,4 @@ returns c =
     find_from_yields_List (λ (t : Term). same t.literal l) _ _ _ c.find.ensures.ran (YieldsList-from_slice ts (c.iter.ensures.rest ∙ c.terms.ensures.value)) (λ x b q k. search rules) in
     let it : c.map_or.result ≡ unwrap_or (option_map (λ x. x.now.weight) c.find.result) 0 = search rules in
     it ∙ ap (λ (o : Option ℕ). unwrap_or o 0) (fused (λ x. x.now) (λ (t : Term). t.weight) c.find.result)
-    ∙ ap (λ (o : Option Term). unwrap_or (option_map (λ (t : Term). t.weight) o) 0) found ∙ found_weighs ts l c.args.self.now.once
+    ∙ ap (λ (o : Option Term). unwrap_or (option_map (λ (t : Term). t.weight) o) 0) found ∙ found_weighs ts l c.args.self.now.terms.once

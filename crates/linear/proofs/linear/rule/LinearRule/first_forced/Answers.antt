@@ -10,5 +10,5 @@ returns c =
     let r = c.args.self.now in
     let s = c.args.set.now in
     let fits : SFits w64 c.slack-slack.result = search rules in
-    first_forced (terms_of r) r.degree s r.once c.first_above.result
+    first_forced (terms_of r) r.degree s r.terms.once c.first_above.result
     (subst (λ (z : ℤ). FirstAbove (terms_of r) z s c.first_above.result) (to_z-of_z w64 _ fits ∙ c.slack-slack.ensures) c.first_above.ensures)

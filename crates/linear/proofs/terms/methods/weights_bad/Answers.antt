@@ -2,8 +2,8 @@ use Rattle.std.proofs.Common.{sym, ◌∙◌}
 use Rattle.std.proofs.lemmas.List.{at_drop_all}
 use Rattle.linear.specs.Terms.{bad_after}
 use Rattle.linear.proofs.Checking.{bad_zero, bad_rise, good_more}
-use Rattle.linear.proofs.linear.making.weights_bad.Goals as goal
-use Rattle.linear.proofs.linear.making.weights_bad.Goals.{then-w-eq0-via-then-w-eq0, then-w-eq0-via-else-w-eq0+then-w-before}
+use Rattle.linear.proofs.terms.methods.weights_bad.Goals as goal
+use Rattle.linear.proofs.terms.methods.weights_bad.Goals.{then-w-eq0-via-then-w-eq0, then-w-eq0-via-else-w-eq0+then-w-before}
 
 pub returns-then-w-eq0 : goal.returns-then-w-eq0
 returns-then-w-eq0 c =
