@@ -23,13 +23,13 @@ pub struct Why {
 
 // The steps of a session's trail, with the shelf whose rules locked them.
 #[derive(Drop)]
-struct Trail<'a, S> {
+struct Reasoning<'a, S> {
     shelf: &'a S,
     steps: &'a [Step],
     ghost once: { distinct (literals_on steps.now) ≡ true },
 }
 
-impl<'a, S: Shelf> Trail<'a, S> {
+impl<'a, S: Shelf> Reasoning<'a, S> {
     // The place of a switch, from 0.
     fn place_of(&self, switch: u32) -> Option<usize>
         ensures { result ≡ position (λ x. x.literal.switch == switch) self.now.steps.now }
@@ -88,10 +88,10 @@ pub fn explain<S: Shelf>(shelf: &S, steps: &[Step], switch: u32) -> Result<Why, 
     if switch < 1 || switch > 64 {
         return Err(Refusal::OutOfRange);
     }
-    let trail = Trail { shelf, steps };
-    let place = trail.place_of(switch).ok_or(Refusal::SwitchFree)?;
+    let reasoning = Reasoning { shelf, steps };
+    let place = reasoning.place_of(switch).ok_or(Refusal::SwitchFree)?;
     Ok(Why {
         rule: steps[place].rule,
-        word: trail.reached(place).switches(),
+        word: reasoning.reached(place).switches(),
     })
 }

@@ -1,13 +1,13 @@
 ghost use Rattle.std.specs.Prelude.{◌≡◌, ◌≤◌, true, List, length, take, IfOk, MatchResult};
 ghost use Rattle.lists.specs.Lists.{distinct};
-ghost use Rattle.literals.specs.declared.literal.Literal.{Literal};
+ghost use Rattle.literals.specs.declared.literal.Literal.{Literal as Lit};
 ghost use Rattle.literals.specs.Refusals.{first_failed, refusal_of};
 ghost use Rattle.literals.specs.Settings.{set_of};
 ghost use Rattle.shelf.specs.Meanings.{Answers, Every, Lawful, letter_checks, Meaning, mention_checks, OfRule};
 ghost use Rattle.told.specs.Tellings.{Appended, back_checks, tell_checks};
 
 use crate::lettered::Lettered;
-use literals::Refusal;
+use literals::{Literal, Refusal};
 use rules::Verdict;
 
 // A shelf made over more rules fails shut: it counts as one rule that every set breaks.
@@ -25,7 +25,7 @@ pub trait Shelf {
 
     ghost rules: { Self → List Meaning };
 
-    ghost told: { Self → List Literal };
+    ghost told: { Self → List Lit };
 
     // Appends the literal of this number to the told ones; refused by 1, 24 or 25.
     fn tell(&mut self, n: i16) -> Result<(), Refusal>
@@ -63,9 +63,7 @@ pub trait Shelf {
     fn check_mention(&self, rule: usize, switch: u8) -> Result<(), Refusal>
         ensures { refusal_of result ≡ first_failed (mention_checks (rules self.now) rule switch) }
     {
-        if switch < 1 || switch > 64 {
-            return Err(Refusal::OutOfRange);
-        }
+        Literal::of(switch, true)?;
         self.check_rule(rule)
     }
 

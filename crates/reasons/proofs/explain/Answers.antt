@@ -6,8 +6,8 @@ use Rattle.reasons.proofs.Places.{of_switch, found, absent}
 use Rattle.reasons.proofs.Explaining.{explains, free_refused, standing_told, trail_because, trail_once}
 use Rattle.reasons.proofs.explain.Goals as goal
 
-pub invariant_of-trail : goal.invariant_of-trail
-invariant_of-trail g c = record { once = trail_once (g.S.Shelf.rules c.args.shelf.now) c.args.steps.now c.requires.trail }
+pub invariant_of-reasoning : goal.invariant_of-reasoning
+invariant_of-reasoning g c = record { once = trail_once (g.S.Shelf.rules c.args.shelf.now) c.args.steps.now c.requires.trail }
 
 pub returns-in_err-place-clause-refused : goal.returns-in_err-place-clause-refused
 returns-in_err-place-clause-refused g c =

@@ -1,7 +1,7 @@
 use Rattle.std.proofs.Common.{◌≡◌, ◌∙◌, sym, refl}
 use Rattle.literals.specs.Settings.{plus, nothing}
 use Rattle.reasons.proofs.Reaching.{sought_first, sought_past, sought_chosen, sought_locked}
-use Rattle.reasons.proofs.Trail.reached.Goals as goal
+use Rattle.reasons.proofs.Reasoning.reached.Goals as goal
 
 pub loop-left-init : goal.loop-left-init
 loop-left-init g c =
