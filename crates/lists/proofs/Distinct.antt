@@ -1,7 +1,7 @@
 -- The switches that a list mentions, and that none comes twice: the steps of the loops that look for them.
-use Rattle.std.proofs.Common.{◌≡◌, ℕ, ◌+◌, ◌<◌, Bool, true, false, not, ◌&&◌, ◌||◌, eqb, List, [], ◌∷◌, ◌++◌, map, length, get_or, take, ℤ, neg_ℤ, sym, refl, ap, ◌∙◌, ap₂, arith}
+use Rattle.std.proofs.Common.{◌≡◌, ℕ, ◌+◌, ◌-◌, ◌<◌, Bool, true, false, not, ◌&&◌, ◌||◌, eqb, List, [], ◌∷◌, ◌++◌, map, length, get_or, take, drop, ℤ, neg_ℤ, sym, refl, ap, ◌∙◌, ap₂, arith, length-drop, take_all}
 use Rattle.std.specs.List.{list_any}
-use Rattle.std.proofs.lemmas.List.{take_more, length-map}
+use Rattle.std.proofs.lemmas.List.{take_more, at_drop_more, length-map}
 use Rattle.std.proofs.lemmas.Bool.{not-false}
 use Rattle.literals.specs.declared.literal.Literal.{Literal}
 use Rattle.literals.specs.Literals.{number, size, opposite}
@@ -28,6 +28,14 @@ mentioned_more ls n i l lt is =
   where
     or_false : (a : Bool) → (a || false) ≡ a
     or_false a = grind arith
+
+-- what is left of a list, with its first literal looked for in the rest
+pub distinct_more : (ls : List Literal) (i n : ℕ) (l : Literal) (r : Bool) → i < length ls → l ≡ get_or ls i l → n ≡ l.switch
+    → r ≡ mentioned (take (length ls - (i + 1)) (drop (i + 1) ls)) n → distinct (drop i ls) ≡ (not r && distinct (drop (i + 1) ls))
+distinct_more ls i n l r lt is m e =
+    let rest : take (length ls - (i + 1)) (drop (i + 1) ls) ≡ drop (i + 1) ls = take_all _ _ (omega (arith, length-drop (i + 1) ls)) in
+    let here : r ≡ mentioned (drop (i + 1) ls) (get_or ls i l).switch = e ∙ ap₂ (λ (xs : List Literal) (k : ℕ). mentioned xs k) rest (m ∙ ap (λ (x : Literal). x.switch) is) in
+    at_drop_more distinct ls i l lt ∙ ap (λ (b : Bool). not b && distinct (drop (i + 1) ls)) (sym here)
 
 -- ---- the same, of the numbers of the literals
 

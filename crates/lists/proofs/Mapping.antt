@@ -1,6 +1,15 @@
--- A list written place by place, such that a part of each is what stands at the same place of another.
+-- A list written place by place, each from the same place of another, or such that a part of each is what stands there.
 use Rattle.std.proofs.Common.{◌≡◌, ℕ, ◌+◌, ◌<◌, ◌≤◌, List, [], ◌∷◌, ◌++◌, map, length, get_or, take, set, sym, ap, ◌∙◌, arith, take_all}
-use Rattle.std.proofs.lemmas.List.{length-map, length-take-le, map_push, take_more, take_more_set}
+use Rattle.std.proofs.lemmas.List.{map_more, length-map, length-take-le, map_push, take_more, take_more_set}
+
+module _ {X Y : Type 0} (f : X → Y) (xs : List X) (ys : List Y) (i : ℕ) where
+  pub mapped_more : (x : X) (y : Y) → i < length xs → i < length ys → x ≡ get_or xs i x → y ≡ f x → take i ys ≡ map f (take i xs)
+      → take (i + 1) (set ys i y) ≡ map f (take (i + 1) xs)
+  mapped_more x y lt room is e h =
+      take_more_set ys i y room ∙ ap (λ (zs : List Y). zs ++ (y ∷ [])) h ∙ ap (λ (z : Y). map f (take i xs) ++ (z ∷ [])) (e ∙ ap f is) ∙ sym (map_more f xs i x lt)
+
+  pub mapped_all : (n : ℕ) → n ≡ length xs → i ≤ length xs → length xs ≤ i → take i ys ≡ map f (take i xs) → take n ys ≡ map f xs
+  mapped_all n is le ge h = let e : n ≡ i = omega arith in ap (λ (k : ℕ). take k ys) e ∙ h ∙ ap (map f) (take_all i xs ge)
 
 module _ {X Y : Type 0} (f : Y → X) (xs : List X) (ys : List Y) (i : ℕ) where
   pub part_more : (x : X) (y : Y) → i < length xs → i < length ys → x ≡ get_or xs i x → f y ≡ x → map f (take i ys) ≡ take i xs

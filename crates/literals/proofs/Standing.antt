@@ -10,7 +10,7 @@ use Rattle.bits.proofs.Bits.{word_same, bit_with, bit_without, bit-zero, has_bit
 use Rattle.literals.specs.declared.literal.Literal.{Literal}
 use Rattle.literals.specs.declared.setting.Setting.{Setting}
 use Rattle.literals.specs.Literals.{number, opposite, same}
-use Rattle.literals.specs.Settings.{stands, stands_number, free, plus, minus, nothing, side, with_side, ◌⊆◌, plus_all}
+use Rattle.literals.specs.Settings.{stands, stands_number, free, plus, minus, nothing, side_word, with_word, ◌⊆◌, plus_all}
 use Rattle.literals.proofs.Known.{same_self, same_is}
 
 pub nothing-stands : (l : Literal) → stands nothing l ≡ false
@@ -128,34 +128,35 @@ number-stands s l = at l.on l.switch l.range.0
 
 -- ---- the code's words
 
--- the word of a literal's side, with its bit taken out
-pub side_minus : (s : Setting) (l : Literal) (w b : ℕ) → b ≡ 2 ^ (l.switch - 1) → w ≡ bit_and (side s l) ((2 ^ 64 - 1) - b) → with_side s l w ≡ minus s l
+pub without_side : (s : Setting) (l : Literal) (w : ℕ) (b : Bool) → w ≡ 2 ^ (l.switch - 1) → l.on ≡ b
+    → ◌≡◌ {A = Setting} (record { on = cond b (bit_and s.on ((2 ^ 64 - 1) - w)) s.on; off = cond b s.off (bit_and s.off ((2 ^ 64 - 1) - w)) }) (minus s l)
 unfolding minus
-side_minus s l w b e h = ap (with_side s l) (h ∙ ap (λ (x : ℕ). bit_and (side s l) ((2 ^ 64 - 1) - x)) e) ∙ at l.on
+without_side s l w b e h =
+    ap₂ (λ (x : ℕ) (d : Bool). record { on = cond d (bit_and s.on ((2 ^ 64 - 1) - x)) s.on; off = cond d s.off (bit_and s.off ((2 ^ 64 - 1) - x)) }) e (sym h)
+
+pub with_side : (s : Setting) (l : Literal) (w : ℕ) (b : Bool) → w ≡ 2 ^ (l.switch - 1) → l.on ≡ b
+    → ◌≡◌ {A = Setting} (record { on = cond b (bit_or s.on w) s.on; off = cond b s.off (bit_or s.off w) }) (plus s l)
+unfolding plus
+with_side s l w b e h =
+    ap₂ (λ (x : ℕ) (d : Bool). record { on = cond d (bit_or s.on x) s.on; off = cond d s.off (bit_or s.off x) }) e (sym h)
+
+-- the word of a literal's side, with its bit taken out
+pub side_minus : (s : Setting) (l : Literal) (w b : ℕ) → b ≡ 2 ^ (l.switch - 1) → w ≡ bit_and (side_word s l) ((2 ^ 64 - 1) - b) → with_word s l w ≡ minus s l
+side_minus s l w b e h = ap (with_word s l) h ∙ at l.on ∙ without_side s l b l.on e refl
   where
     at : (d : Bool) → ◌≡◌ {A = Setting}
-        (record {
-          on = cond d (bit_and (cond d s.on s.off) ((2 ^ 64 - 1) - 2 ^ (l.switch - 1))) s.on;
-          off = cond d s.off (bit_and (cond d s.on s.off) ((2 ^ 64 - 1) - 2 ^ (l.switch - 1)));
-        })
-        (record {
-          on = cond d (bit_and s.on ((2 ^ 64 - 1) - 2 ^ (l.switch - 1))) s.on;
-          off = cond d s.off (bit_and s.off ((2 ^ 64 - 1) - 2 ^ (l.switch - 1)));
-        })
+        (record { on = cond d (bit_and (cond d s.on s.off) ((2 ^ 64 - 1) - b)) s.on; off = cond d s.off (bit_and (cond d s.on s.off) ((2 ^ 64 - 1) - b)) })
+        (record { on = cond d (bit_and s.on ((2 ^ 64 - 1) - b)) s.on; off = cond d s.off (bit_and s.off ((2 ^ 64 - 1) - b)) })
     at true = refl
     at false = refl
 
 -- the same with its bit put in
-pub side_plus : (s : Setting) (l : Literal) (w b : ℕ) → b ≡ 2 ^ (l.switch - 1) → w ≡ bit_or (side s l) b → with_side s l w ≡ plus s l
-unfolding plus
-side_plus s l w b e h = ap (with_side s l) (h ∙ ap (bit_or (side s l)) e) ∙ at l.on
+pub side_plus : (s : Setting) (l : Literal) (w b : ℕ) → b ≡ 2 ^ (l.switch - 1) → w ≡ bit_or (side_word s l) b → with_word s l w ≡ plus s l
+side_plus s l w b e h = ap (with_word s l) h ∙ at l.on ∙ with_side s l b l.on e refl
   where
     at : (d : Bool) → ◌≡◌ {A = Setting}
-        (record {
-          on = cond d (bit_or (cond d s.on s.off) (2 ^ (l.switch - 1))) s.on;
-          off = cond d s.off (bit_or (cond d s.on s.off) (2 ^ (l.switch - 1)));
-        })
-        (record { on = cond d (bit_or s.on (2 ^ (l.switch - 1))) s.on; off = cond d s.off (bit_or s.off (2 ^ (l.switch - 1))) })
+        (record { on = cond d (bit_or (cond d s.on s.off) b) s.on; off = cond d s.off (bit_or (cond d s.on s.off) b) })
+        (record { on = cond d (bit_or s.on b) s.on; off = cond d s.off (bit_or s.off b) })
     at true = refl
     at false = refl
 

@@ -71,9 +71,9 @@ abbrev pub taken_checks : Setting → Literal → List Check
 taken_checks s l = check (stands s l) Stands ∷ check (stands s (opposite l)) OppositeStands ∷ []
 
 -- the word of a literal's side
-abbrev pub side : Setting → Literal → ℕ
-side s l = cond l.on s.on s.off
+abbrev pub side_word : Setting → Literal → ℕ
+side_word s l = cond l.on s.on s.off
 
 -- the set with another word on a literal's side
-abbrev pub with_side : Setting → Literal → ℕ → Setting
-with_side s l w = record { on = cond l.on w s.on; off = cond l.on s.off w }
+abbrev pub with_word : Setting → Literal → ℕ → Setting
+with_word s l w = record { on = cond l.on w s.on; off = cond l.on s.off w }

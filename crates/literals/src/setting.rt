@@ -3,7 +3,7 @@ ghost use Rattle.bits.specs.Words.{bit as has_bit};
 ghost use Rattle.literals.specs.declared.literal.Literal.{Literal as Lit};
 ghost use Rattle.literals.specs.Literals.{same, opposite};
 ghost use Rattle.literals.specs.Refusals.{first_failed, refusal_of};
-ghost use Rattle.literals.specs.Settings.{stands, free, free_switch, minus, plus, nothing, free_count, side, with_side, taken_checks, ◌⊆◌};
+ghost use Rattle.literals.specs.Settings.{stands, free, free_switch, minus, plus, nothing, free_count, side_word, with_word, taken_checks, ◌⊆◌};
 
 use crate::literal::Literal;
 use crate::refusal::Refusal;
@@ -64,8 +64,8 @@ impl Setting {
 
     // The set with the word of the literal's side changed by `step`.
     fn changed<F: FnOnce(u64) -> u64>(self, l: Literal, step: F) -> Setting
-        requires { F.pre step (side self l) }
-        ensures { (word : ℕ) × F.post step (side self l) word × (result ≡ with_side self l word) }
+        requires { F.pre step (side_word self l) }
+        ensures { (word : ℕ) × F.post step (side_word self l) word × (result ≡ with_word self l word) }
     {
         if l.on {
             Setting {

@@ -53,6 +53,9 @@ module _ {R : Type 0} (breaks : R → Setting → Bool) (xs : List R) (s : Setti
       (cases_lt q (i + 1))
 
 module _ {R : Type 0} (breaks : R → Setting → Bool) (xs : List R) (s : Setting) where
+  pub silent_none : SilentTo breaks xs s 0
+  silent_none q x n l = let low = numbered_low n in absurd (omega arith)
+
   pub silent_all : (i : ℕ) → length xs ≤ i → SilentTo breaks xs s i → (q : ℕ) (x : R) → Numbered xs q x → Silent (breaks x) s
   silent_all i le silent q x n = let high = numbered_high n in silent q x n (omega arith)
 

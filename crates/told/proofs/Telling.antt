@@ -1,7 +1,8 @@
 -- What telling and taking back lean on.
-use Rattle.std.proofs.Common.{◌≡◌, ℕ, ◌<◌, ◌≤◌, Bool, true, false, cond, not, ltb, List, [], ◌∷◌, ◌++◌, length, take, ℤ, neg_ℤ, Some, None, Ok, Err, Result, sym, refl, ap, ◌∙◌, subst, ap₂, arith, MatchResult}
+use Rattle.std.proofs.Common.{◌≡◌, ℕ, ◌+◌, ◌-◌, ◌<◌, ◌≤◌, min, Bool, true, false, cond, not, ltb, List, [], ◌∷◌, ◌++◌, length, get_or, take, ℤ, neg_ℤ, Some, None, Ok, Err, Result, sym, refl, ap, ◌∙◌, subst, ap₂, ⊎_elim, arith, MatchResult}
 use Rattle.std.proofs.Math.Seq.{take-append_seam}
-use Rattle.std.proofs.lemmas.Bool.{and_from, or_from, le-ltb}
+use Rattle.std.proofs.lemmas.List.{take_more, take_all}
+use Rattle.std.proofs.lemmas.Bool.{and_from, or_from, cases_lt, le-ltb}
 use Rattle.literals.specs.declared.literal.Literal.{Literal}
 use Rattle.literals.specs.declared.refusal.Refusal.{Refusal}
 use Rattle.literals.specs.declared.refusal.Refusal.TheVariants.{OutOfRange, Stands, OppositeStands}
@@ -62,6 +63,25 @@ taken_out left left' l s s' m d e f =
       f ∙ ap (λ (t : Setting). minus t l) (e ∙ ap set_of m ∙ plus_all-push nothing left' l)
           ∙ minus_plus (set_of left') l (plus_all_fits nothing left' nothing_fits) off,
     )
+
+-- the same of a list cut at place k
+pub back_one : (xs : List Literal) (k : ℕ) (l : Literal) (s s' : Setting) → distinct xs ≡ true → 0 < k → k ≤ length xs → l ≡ get_or xs (k - 1) l
+    → s ≡ set_of (take k xs) → s' ≡ minus s l → s' ≡ set_of (take (k - 1) xs)
+back_one xs k l s s' d p q is e f =
+    let ls = take (k - 1) xs in
+    let z : k - 1 + 1 ≡ k = omega arith in
+    let m : take k xs ≡ ls ++ l ∷ [] =
+    ap (λ (i : ℕ). take i xs) (sym z) ∙ take_more xs (k - 1) l (omega arith) ∙ ap (λ (y : Literal). ls ++ y ∷ []) (sym is) in
+    (taken_out (take k xs) ls l s s' m (distinct-take k xs d) e f).1
+
+pub back_all : {A : Type 0} (xs : List A) (k n : ℕ) → k ≤ n → min n (length xs) ≤ k → take k xs ≡ take n xs
+back_all xs k n le ge = ⊎_elim short long (cases_lt n (length xs))
+  where
+    short : n < length xs → take k xs ≡ take n xs
+    short h = let e : k ≡ n = omega arith in ap (λ (i : ℕ). take i xs) e
+
+    long : length xs ≤ n → take k xs ≡ take n xs
+    long h = take_all k xs (omega arith) ∙ sym (take_all n xs h)
 
 -- ---- a shelf that is told a free literal, or takes back no more than it was told, does not refuse
 
