@@ -23,7 +23,6 @@ use Rattle.runs.specs.Runs.{Traced}
 use Rattle.runs.proofs.Because.{because}
 use Rattle.runs.proofs.Keeping.{run_keeps}
 use Rattle.runs.proofs.Trails.{once}
-use Rattle.runs.proofs.Verdicts.{true_false}
 use Rattle.reasons.specs.Whys.{Collected}
 use Rattle.reasons.proofs.Marking.{place_mentioned}
 
@@ -74,7 +73,7 @@ module _ (rules : List Meaning) (t : List Step) (place word : ℕ) (chosen : Set
       either : (a b : Bool) → (not a && not b) ≡ false → (a ≡ true) ⊎ (b ≡ true)
       either true b e = inl refl
       either false true e = inr refl
-      either false false e = true_false refl e
+      either false false e = absurd cc
 
   exactly : (m : ℕ) → 1 ≤ m → m ≤ 64 → Decides (bit word (m - 1)) (Reason rules t place m)
   exactly m low high =
@@ -94,7 +93,7 @@ module _ (rules : List Meaning) (t : List Step) (place word : ℕ) (chosen : Set
           let l = r.step.literal in
           let h : stands chosen l ≡ true
           = (collected l).1 (record { place = r.place; step = r.step; at = r.at; behind = numbered_low r.at; is = refl; chosen = r.chosen; reached = r.reached }) in
-          subst (λ (k : ℕ). free_switch chosen k ≡ false) r.switch (sym (free_is chosen l) ∙ taken (stands chosen l) (stands chosen (opposite l)) h)
+          rw (sym r.switch) (sym (free_is chosen l) ∙ taken (stands chosen l) (stands chosen (opposite l)) h)
 
   pub explains : (n : ℕ) (rule : Option ℕ) (x : Step) → Because rules t → Numbered t place x → x.literal.switch ≡ n → x.rule ≡ rule → Explains rules t n rule word
   explains n rule x b at e by =

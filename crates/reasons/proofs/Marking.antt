@@ -1,8 +1,7 @@
 -- Why a literal stands: going down the trail marks exactly what is reached.
-use Rattle.std.proofs.Common.{◌≡◌, ℕ, suc, ◌-◌, Bool, true, false, cond, not, ◌&&◌, ◌⊎◌, List, [], ◌∷◌, length, filter, fold, get_or, Some, None, Ok, Err, Result, IfOk, Decides, sym, refl, ap, ap₂, ◌∙◌, subst, inl, inr, ⊎_elim, arith}
+use Rattle.std.proofs.Common.{◌≡◌, ℕ, suc, ◌-◌, Bool, true, false, cond, not, ◌&&◌, ◌⊎◌, List, [], ◌∷◌, length, filter, fold, get_or, Some, None, Ok, Err, Result, IfOk, Decides, sym, refl, ap, ap₂, ◌∙◌, inl, inr, ⊎_elim, arith}
 use Rattle.std.specs.Result.{result_unwrap_or}
 use Rattle.std.proofs.lemmas.Bool.{and_parts, not-true, or_left, or_right, or_from, or_parts, le-ltb, ltb-false, eq-eqb}
-use Rattle.std.proofs.lemmas.Option.{none-some}
 use Rattle.literals.specs.declared.literal.Literal.{Literal}
 use Rattle.literals.specs.declared.refusal.Refusal.{Refusal}
 use Rattle.literals.specs.declared.setting.Setting.{Setting}
@@ -18,7 +17,6 @@ use Rattle.shelf.specs.Meanings.{Meaning, OfRule, shut, no_rule, mention_checks}
 use Rattle.shelf.proofs.Caps.{number_there, rule_there}
 use Rattle.runs.specs.declared.step.Step.{Step}
 use Rattle.runs.specs.Views.{literals_on}
-use Rattle.runs.proofs.Verdicts.{true_false}
 use Rattle.reasons.specs.Whys.{Mentions, Named, Marks, mentioned_by, marked_by}
 
 -- ---- each switch has one place
@@ -30,7 +28,7 @@ place_mentioned (later n) = or_right _ _ (place_mentioned n)
 head_new : (x : Step) (t : List Step) {k : ℕ} {y : Step} → distinct (literals_on (x ∷ t)) ≡ true → Numbered t k y → x.literal.switch ≡ y.literal.switch → ⊥
 head_new x t {k} {y} d n e =
     let once = not-true _ (and_parts (not (mentioned (literals_on t) x.literal.switch)) (distinct (literals_on t)) d).0 in
-    true_false (place_mentioned n) (ap (mentioned (literals_on t)) (sym e) ∙ once)
+    cc (place_mentioned n, once)
 
 pub one_place : (t : List Step) {j k : ℕ} {x y : Step} → distinct (literals_on t) ≡ true → Numbered t j x → Numbered t k y → x.literal.switch ≡ y.literal.switch → j ≡ k
 one_place [] d n m e = elim n [ ]
@@ -57,7 +55,8 @@ unwrapped rules rule l k (Err f) e p o = at (no_rule rules rule) refl
     at : (b : Bool) → no_rule rules rule ≡ b → false ≡ not b && (get_or rules (rule - 1) (shut 0)).mentions l.switch
     at true q = refl
     at false q =
-        absurd (none-some f (sym (p ∙ ap₂ (λ (a b : Bool). cond a (Some OutOfRange) (cond b (Some NoSuchPlace) None)) known q)))
+        let none : first_failed (mention_checks rules rule k) ≡ None = ap₂ (λ (a b : Bool). cond a (Some OutOfRange) (cond b (Some NoSuchPlace) None)) known q in
+        absurd cc
 
 -- ---- one rule marks what it mentions
 
@@ -79,7 +78,7 @@ module _ (rules : List Meaning) (rule : ℕ) where
   behind (later {r = j} n) = inr (j, n)
 
   named_here : (x : Step) (t : List Step) (l : Literal) → mentioned_by rules rule x.literal.switch ≡ true → x.literal ≡ l → Named rules (x ∷ t) rule l
-  named_here x t l h e = record { place = 1; step = x; at = first; is = e; mentions = subst (λ (k : Literal). Mentions rules rule k.switch) e (mentions_of x.literal.switch h) }
+  named_here x t l h e = record { place = 1; step = x; at = first; is = e; mentions = rw (sym e) (mentions_of x.literal.switch h) }
 
   named_later : (x : Step) (t : List Step) (l : Literal) → Named rules t rule l → Named rules (x ∷ t) rule l
   named_later x t l n = record { place = _; step = n.step; at = later n.at; is = n.is; mentions = n.mentions }
@@ -104,9 +103,9 @@ module _ (rules : List Meaning) (rule : ℕ) where
       go true e ih = (
         (λ h. ⊎_elim (λ q. ⊎_elim (λ (i : x.literal ≡ l). inr (named_here x t l e i)) inl (plus_cases s x.literal l q)) (λ n. inr (named_later x t l n)) ((ih (plus s x.literal)).0 h)),
         (λ h. (ih (plus s x.literal)).1 (⊎_elim (λ q. inl (plus_keeps s x.literal l q))
-            (λ n. ⊎_elim (λ i. inl (subst (λ (k : Literal). stands (plus s x.literal) k ≡ true) i.0 (plus-has s x.literal))) inr (named_behind x t l n)) h)),
+            (λ n. ⊎_elim (λ i. inl (rw (sym i.0) (plus-has s x.literal))) inr (named_behind x t l n)) h)),
       )
       go false e ih = (
         (λ h. ⊎_elim inl (λ n. inr (named_later x t l n)) ((ih s).0 h)),
-        (λ h. (ih s).1 (⊎_elim inl (λ n. ⊎_elim (λ i. true_false i.1 e) inr (named_behind x t l n)) h)),
+        (λ h. (ih s).1 (⊎_elim inl (λ n. ⊎_elim (λ i. absurd cc) inr (named_behind x t l n)) h)),
       )

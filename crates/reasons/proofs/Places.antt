@@ -1,5 +1,5 @@
 -- The place of a switch on a trail.
-use Rattle.std.proofs.Common.{◌≡◌, ℕ, ◌+◌, ◌≤◌, Bool, true, false, cond, not, ◌||◌, eqb, List, [], ◌∷◌, length, get_or, position, Some, None, sym, refl, subst, arith}
+use Rattle.std.proofs.Common.{◌≡◌, ℕ, ◌+◌, ◌≤◌, Bool, true, false, cond, not, ◌||◌, eqb, List, [], ◌∷◌, length, get_or, position, Some, None, refl, arith}
 use Rattle.std.specs.List.{position_or_len}
 use Rattle.std.proofs.lemmas.List.Quantifiers.{position-Some}
 use Rattle.std.proofs.lemmas.Bool.{eqb-true}
@@ -22,8 +22,8 @@ pub found : (t : List Step) (i n : ℕ) (x : Step) → position (of_switch n) t 
 found t i n x e is =
     let p = position-Some (of_switch n) t i x e in
     record {
-      at = subst (Numbered t (i + 1)) (sym is) (at_numbered t i x p.0);
-      switch = eqb-true x.literal.switch n (subst (λ (y : Step). of_switch n y ≡ true) (sym is) p.1);
+      at = rw is (at_numbered t i x p.0);
+      switch = eqb-true x.literal.switch n (rw is p.1);
     }
 
 unseen : (t : List Step) (n : ℕ) → length t ≤ position_or_len (of_switch n) t → mentioned (literals_on t) n ≡ false

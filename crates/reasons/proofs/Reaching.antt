@@ -2,7 +2,6 @@
 use Rattle.std.proofs.Common.{◌≡◌, ℕ, zero, suc, ◌+◌, ◌-◌, ◌<◌, ◌≤◌, true, false, ◌⊎◌, List, [], ◌∷◌, length, get_or, take, Some, None, sym, refl, ap, ◌∙◌, subst, inl, inr, ⊎_elim, arith}
 use Rattle.std.proofs.lemmas.Bool.{cases_eq}
 use Rattle.std.proofs.lemmas.List.{length-take-le, take-take}
-use Rattle.std.proofs.lemmas.Option.{none-some, same_Some}
 use Rattle.literals.specs.declared.literal.Literal.{Literal}
 use Rattle.literals.specs.declared.setting.Setting.{Setting}
 use Rattle.literals.specs.Settings.{stands, plus, nothing}
@@ -14,7 +13,6 @@ use Rattle.shelf.specs.Meanings.{Meaning}
 use Rattle.runs.specs.declared.step.Step.{Step}
 use Rattle.runs.specs.Views.{literals_on}
 use Rattle.runs.specs.Reasons.{Leads, Reaches, itself, on}
-use Rattle.runs.proofs.Verdicts.{true_false}
 use Rattle.reasons.specs.Whys.{Mentions, Named, Marks, Marked, marked_by, AllMarked, Chosen, Collected, Sought}
 use Rattle.reasons.proofs.Marking.{one_place, marks_all}
 
@@ -36,7 +34,7 @@ module _ (rules : List Meaning) (t : List Step) where
   reaches_marked (on {j} r l) = inr (j, l.earlier, r, l)
 
   marked_reaches : {p m k : ℕ} → Marked rules t p m k → Reaches rules t p k
-  marked_reaches {p} {m} {k} (inl e) = subst (Reaches rules t p) (sym e) itself
+  marked_reaches {p} {m} {k} (inl e) = rw e itself
   marked_reaches (inr (q, h, r, l)) = on r l
 
   module _ (once : distinct (literals_on t) ≡ true) (p : ℕ) where
@@ -45,15 +43,15 @@ module _ (rules : List Meaning) (t : List Step) where
     starts : (x : Step) → Numbered t p x → AllMarked rules t p p (plus nothing x.literal)
     starts x at k y n = (
       (λ h. ⊎_elim (λ (e : x.literal ≡ y.literal). inl (sym (one_place t once at n (ap (λ (l : Literal). l.switch) e))))
-          (λ q. absurd (true_false q (nothing-stands y.literal))) (plus_cases nothing x.literal y.literal h)),
-      (λ h. ⊎_elim (λ (e : k ≡ p). let same : x ≡ y = numbered_one at (subst (λ (j : ℕ). Numbered t j y) e n) in
-          subst (λ (z : Step). stands (plus nothing x.literal) z.literal ≡ true) same (plus-has nothing x.literal))
+          (λ q. absurd (cc (nothing-stands y.literal))) (plus_cases nothing x.literal y.literal h)),
+      (λ h. ⊎_elim (λ (e : k ≡ p). let same : x ≡ y = numbered_one at (rw (sym e) n) in
+          rw (sym same) (plus-has nothing x.literal))
           (λ w. let low = reaches_low w.2 in let high = w.1 in absurd (omega arith)) h),
     )
 
     none_yet : Collected rules t p p nothing
     none_yet l = (
-      (λ h. absurd (true_false h (nothing-stands l))),
+      (λ h. absurd (cc (nothing-stands l))),
       (λ (h : Chosen rules t p p l). let low = reaches_low h.reached in let high = h.behind in absurd (omega arith)),
     )
 
@@ -78,7 +76,7 @@ module _ (rules : List Meaning) (t : List Step) where
           narrow : Marked rules t p m k → Marked rules t p i k
           narrow (inl e) = inl e
           narrow (inr (q, lt, r, l)) =
-              ⊎_elim (λ (e : q ≡ i). absurd (dead k (subst (Reaches rules t p) e r) (subst (λ (j : ℕ). Leads rules t j k) e l))) (λ lt'. inr (q, lt', r, l)) (split q lt)
+              ⊎_elim (λ (e : q ≡ i). absurd (dead k (rw (sym e) r) (rw (sym e) l))) (λ lt'. inr (q, lt', r, l)) (split q lt)
 
       later_chosen : {l : Literal} → Chosen rules t p i l → Chosen rules t p m l
       later_chosen c = record { place = c.place; step = c.step; at = c.at; behind = let b = c.behind in omega arith; is = c.is; chosen = c.chosen; reached = c.reached }
@@ -91,7 +89,7 @@ module _ (rules : List Meaning) (t : List Step) where
         where
           narrow : Chosen rules t p m l → Chosen rules t p i l
           narrow c =
-              ⊎_elim (λ (e : c.place ≡ i). absurd (dead (subst (Reaches rules t p) e c.reached)
+              ⊎_elim (λ (e : c.place ≡ i). absurd (dead (rw (sym e) c.reached)
               (ap (λ (y : Step). y.rule) (numbered_one at (subst (λ (j : ℕ). Numbered t j c.step) e c.at)) ∙ c.chosen)))
               (λ lt. record { place = c.place; step = c.step; at = c.at; behind = lt; is = c.is; chosen = c.chosen; reached = c.reached })
               (split c.place c.behind)
@@ -101,15 +99,14 @@ module _ (rules : List Meaning) (t : List Step) where
         here r = (all i x at).1 (reaches_marked r)
 
         unmarked : stands marked x.literal ≡ false → AllMarked rules t p m marked × Collected rules t p m chosen
-        unmarked e = (same_marked marked (λ k r l. true_false (here r) e) all, same_chosen chosen (λ r z. true_false (here r) e) some)
+        unmarked e = (same_marked marked (λ k r l. cc (here r)) all, same_chosen chosen (λ r z. cc (here r)) some)
 
         at_chosen : stands marked x.literal ≡ true → x.rule ≡ None → AllMarked rules t p m marked × Collected rules t p m (plus chosen x.literal)
         at_chosen e z = (same_marked marked (λ k r l. nowhere k l) all, grown)
           where
             nowhere : (k : ℕ) → Leads rules t i k → ⊥
             nowhere k l =
-                let same : l.from ≡ x = numbered_one l.at at in
-                none-some l.rule (sym z ∙ ap (λ (y : Step). y.rule) (sym same) ∙ l.by)
+                let same : l.from ≡ x = numbered_one l.at at in cc
 
             itself_chosen : (l : Literal) → x.literal ≡ l → Chosen rules t p m l
             itself_chosen l q = record { place = i; step = x; at = at; behind = omega arith; is = q; chosen = z; reached = marked_reaches ((all i x at).0 e) }
@@ -119,15 +116,15 @@ module _ (rules : List Meaning) (t : List Step) where
               (λ h. ⊎_elim (itself_chosen l) (λ q. later_chosen ((some l).0 q)) (plus_cases chosen x.literal l h)),
               (λ (c : Chosen rules t p m l).
                   ⊎_elim (λ (q : c.place ≡ i).
-                  let same : x ≡ c.step = numbered_one at (subst (λ (j : ℕ). Numbered t j c.step) q c.at) in
-                  subst (λ (k : Literal). stands (plus chosen x.literal) k ≡ true) (ap (λ (y : Step). y.literal) same ∙ c.is) (plus-has chosen x.literal))
+                  let same : x ≡ c.step = numbered_one at (rw (sym q) c.at) in
+                  rw (sym (ap (λ (y : Step). y.literal) same ∙ c.is)) (plus-has chosen x.literal))
                   (λ lt. plus_keeps chosen x.literal l ((some l).1 (record { place = c.place; step = c.step; at = c.at; behind = lt; is = c.is; chosen = c.chosen; reached = c.reached })))
                   (split c.place c.behind)),
             )
 
         at_locked : (rule : ℕ) (marked' : Setting) → stands marked x.literal ≡ true → x.rule ≡ Some rule → Marks rules (take m t) rule marked marked'
             → AllMarked rules t p m marked' × Collected rules t p m chosen
-        at_locked rule marked' e z marks = (more, same_chosen chosen (λ r q. none-some rule (sym q ∙ z)) some)
+        at_locked rule marked' e z marks = (more, same_chosen chosen (λ r q. cc) some)
           where
             more : AllMarked rules t p m marked'
             more k y n = (
@@ -146,13 +143,12 @@ module _ (rules : List Meaning) (t : List Step) where
                 back (inl q) = (marks y.literal).1 (inl ((all k y n).1 (inl q)))
                 back (inr (q, lt, r, l)) =
                     ⊎_elim (λ (s : q ≡ i).
-                    let from : l.from ≡ x = numbered_one l.at (subst (λ (j : ℕ). Numbered t j x) (sym s) at) in
+                    let from : l.from ≡ x = numbered_one l.at (rw s at) in
                     let to : l.to ≡ y = numbered_one l.there n in
                     let low = l.earlier in
                     let near : k ≤ m = omega arith in
-                    let same : l.rule ≡ rule = same_Some l.rule rule (sym l.by ∙ ap (λ (w : Step). w.rule) from ∙ z) in
-                    let says : Mentions rules rule y.literal.switch
-                    = subst (λ (w : Step). Mentions rules rule w.literal.switch) to (subst (λ (r : ℕ). Mentions rules r l.to.literal.switch) same l.mentions) in
+                    let same : l.rule ≡ rule = cc in
+                    let says : Mentions rules rule y.literal.switch = rw (sym to, sym same) l.mentions in
                     (marks y.literal).1 (inr (record { place = k; step = y; at = numbered_take m n near; is = refl; mentions = says })))
                     (λ lt'. (marks y.literal).1 (inl ((all k y n).1 (inr (q, lt', r, l)))))
                     (split q lt)
@@ -165,12 +161,12 @@ module _ {rules : List Meaning} {t : List Step} {p : ℕ} (once : distinct (lite
       → Sought rules t p (take p t) marked chosen
   sought_first {i} {x} {marked} {chosen} e lt is m c =
       let long : length (take p t) ≡ p = length-take-le p t (omega arith) in
-      let at : Numbered t p x = subst (λ (y : Step). Numbered t p y) (sym is) (subst (λ (k : ℕ). Numbered t k (get_or t i x)) (sym e) (at_numbered t i x lt)) in
+      let at : Numbered t p x = rw is (rw e (at_numbered t i x lt)) in
       record {
         front = ap (λ (k : ℕ). take k t) long;
         within = omega (arith, long);
-        all = subst (λ (k : ℕ). AllMarked rules t p k marked) (sym long) (subst (AllMarked rules t p p) (sym m) (starts rules t once p x at));
-        some = subst (λ (k : ℕ). Collected rules t p k chosen) (sym long) (subst (Collected rules t p p) (sym c) (none_yet rules t once p));
+        all = rw (long, m) (starts rules t once p x at);
+        some = rw (long, c) (none_yet rules t once p);
       }
 
   module _ {left : List Step} {x : Step} {marked chosen : Setting} (there : 1 ≤ length left) (is : x ≡ get_or left (length left - 1) x) (s : Sought rules t p left marked chosen) where
@@ -189,16 +185,16 @@ module _ {rules : List Meaning} {t : List Step} {p : ℕ} (once : distinct (lite
     at : Numbered t (length left) x
     at =
         let here : Numbered left (length left) x
-        = subst (λ (y : Step). Numbered left (length left) y) (sym is) (subst (λ (k : ℕ). Numbered left k (get_or left m x)) (sym next) (at_numbered left m x (omega arith))) in
-        (taken (length left) t (subst (λ (u : List Step). Numbered u (length left) x) (sym s.front) here)).0
+        = rw is (subst (λ (k : ℕ). Numbered left k (get_or left m x)) (sym next) (at_numbered left m x (omega arith))) in
+        (taken (length left) t (rw s.front here)).0
 
     sought : {marked' chosen' : Setting} → AllMarked rules t p m marked' × Collected rules t p m chosen' → Sought rules t p (take m left) marked' chosen'
     sought {marked'} {chosen'} both =
         record {
           front = ap (λ (k : ℕ). take k t) long ∙ sym earlier;
           within = let w = s.within in omega (arith, long);
-          all = subst (λ (k : ℕ). AllMarked rules t p k marked') (sym long) both.0;
-          some = subst (λ (k : ℕ). Collected rules t p k chosen') (sym long) both.1;
+          all = rw long both.0;
+          some = rw long both.1;
         }
 
     pub sought_past : stands marked x.literal ≡ false → Sought rules t p (take m left) marked chosen
@@ -206,11 +202,10 @@ module _ {rules : List Meaning} {t : List Step} {p : ℕ} (once : distinct (lite
 
     pub sought_chosen : {chosen' : Setting} → chosen' ≡ plus chosen x.literal → stands marked x.literal ≡ true → x.rule ≡ None → Sought rules t p (take m left) marked chosen'
     sought_chosen {chosen'} c e z =
-        subst (Sought rules t p (take m left) marked) (sym c) (sought (at_chosen rules t once p m (length left) x next at marked chosen s.all s.some e z))
+        rw c (sought (at_chosen rules t once p m (length left) x next at marked chosen s.all s.some e z))
 
     pub sought_locked : {marked' : Setting} {rule : ℕ} → marked' ≡ marked_by rules rule (take m left) marked → stands marked x.literal ≡ true → x.rule ≡ Some rule
         → Sought rules t p (take m left) marked' chosen
     sought_locked {marked'} {rule} c e z =
-        let marks : Marks rules (take m t) rule marked marked'
-        = subst (λ (u : List Step). Marks rules u rule marked marked') earlier (subst (Marks rules (take m left) rule marked) (sym c) (marks_all rules rule (take m left) marked)) in
+        let marks : Marks rules (take m t) rule marked marked' = rw (sym earlier, c) (marks_all rules rule (take m left) marked) in
         sought (at_locked rules t once p m (length left) x next at marked chosen s.all s.some rule marked' e z marks)

@@ -40,6 +40,7 @@ impl<'a, S: Shelf> Trail<'a, S> {
     }
 
     // There is such a rule, and it mentions the literal's switch.
+    #[tactic(auto, using(crate::proofs::Marking::unwrapped))]
     fn mentions(&self, rule: usize, literal: Literal) -> bool
         ensures { result ≡ mentioned_by (S.Shelf.rules self.now.shelf.now) rule literal.switch }
     {

@@ -1,5 +1,5 @@
 -- A literal of the trail stands in every unbroken set that forces nothing and holds the chosen literals that its place reaches.
-use Rattle.std.proofs.Common.{◌≡◌, ℕ, suc, ◌+◌, ◌<◌, Bool, true, false, cond, List, [], ◌∷◌, ◌++◌, length, Some, None, sym, refl, ap, ◌∙◌, subst, ⊎_elim, arith}
+use Rattle.std.proofs.Common.{◌≡◌, ℕ, suc, ◌+◌, ◌<◌, Bool, true, false, cond, List, [], ◌∷◌, ◌++◌, length, Some, None, sym, refl, ap, ◌∙◌, ⊎_elim, arith}
 use Rattle.literals.specs.declared.literal.Literal.{Literal}
 use Rattle.literals.specs.declared.setting.Setting.{Setting}
 use Rattle.literals.specs.Literals.{opposite}
@@ -13,7 +13,6 @@ use Rattle.shelf.specs.Meanings.{Meaning, Lawful, Every}
 use Rattle.runs.specs.declared.step.Step.{Step}
 use Rattle.runs.specs.Views.{literals_on, standing}
 use Rattle.runs.specs.Reasons.{Meets, Still, Leads, Reaches, itself, on, Because}
-use Rattle.runs.proofs.Verdicts.{true_false}
 use Rattle.runs.proofs.Trails.{Trail, empty, chose, locked, plus_grows, forced_in}
 
 -- ---- the part of a trail that a rule mentions
@@ -57,10 +56,10 @@ named_stands m (x ∷ t) s u l p f h = go (m.mentions x.literal.switch) refl (λ
         → stands (plus_all u (literals_on (cond b (x ∷ named m t) (named m t)))) l ≡ true
     go true e ih =
         ih (plus u x.literal)
-        (λ k. ⊎_elim (λ (q : x.literal ≡ l). subst (λ (n : Literal). stands (plus u x.literal) n ≡ true) q (plus-has u x.literal)) (λ q. plus_keeps u x.literal l (f q)) (plus_cases s x.literal l k))
+        (λ k. ⊎_elim (λ (q : x.literal ≡ l). rw (sym q) (plus-has u x.literal)) (λ q. plus_keeps u x.literal l (f q)) (plus_cases s x.literal l k))
     go false e ih =
         ih u
-        (λ k. ⊎_elim (λ (q : x.literal ≡ l). true_false p (sym (ap (λ (n : Literal). m.mentions n.switch) q) ∙ e)) f (plus_cases s x.literal l k))
+        (λ k. ⊎_elim (λ (q : x.literal ≡ l). let same = ap (λ (n : Literal). m.mentions n.switch) q in absurd cc) f (plus_cases s x.literal l k))
 
 place_stands : (t : List Step) (s : Setting) (j : ℕ) (y : Step) → Numbered t j y → stands (plus_all s (literals_on t)) y.literal ≡ true
 place_stands [] s j y h = elim h [ ]
@@ -68,7 +67,7 @@ place_stands (x ∷ t) s j y first = plus_all_keeps (plus s x.literal) (literals
 place_stands (x ∷ t) s j y (later n) = place_stands t (plus s x.literal) _ y n
 
 none_within : (x : Setting) → nothing ⊆ x
-none_within x l h = true_false h (nothing-stands l)
+none_within x l h = absurd (cc (nothing-stands l))
 
 named_part : (m : Meaning) (t : List Step) → standing (named m t) ⊆ standing t
 named_part m t = all_within (named m t) nothing (standing t) (none_within (standing t)) (λ j y n. let p = named_in m t j y n in place_stands t nothing p.0.0 y p.0.1)
@@ -82,7 +81,7 @@ module _ (rules : List Meaning) (lawful : Every rules Lawful) (s : Setting) (mee
       let part : Setting = standing (named m before) in
       let against : m.breaks (plus part (opposite l)) ≡ true
       = (lawful r m at).ignores (plus (standing before) (opposite l)) (plus part (opposite l)) (plus_grows part (standing before) (opposite l) (named_part m before))
-      (λ k p q. ⊎_elim (λ (e : opposite l ≡ k). subst (λ (n : Literal). stands (plus part (opposite l)) n ≡ true) e (plus-has part (opposite l)))
+      (λ k p q. ⊎_elim (λ (e : opposite l ≡ k). rw (sym e) (plus-has part (opposite l)))
       (λ w. plus_keeps part (opposite l) k (named_stands m before nothing nothing k p (λ z. z) w)) (plus_cases (standing before) (opposite l) k q))
       f.against in
       forced_in rules lawful part s r m l at against
@@ -123,7 +122,7 @@ module _ (rules : List Meaning) (lawful : Every rules Lawful) (s : Setting) (mee
         ⊎_elim (λ p. holds back (shorter t y front) i x p)
         (λ p. let l = last_of t y x i p in λ reasons.
         let rule = ap (λ (w : Step). w.rule) l.0 ∙ z in
-        subst (λ (w : Step). stands s w.literal ≡ true) (sym l.0)
+        rw l.0
         (forced t r a.rule y.literal a.numbered a.here.forced
         (λ j w m says. holds back (shorter t y front) j w m
         (λ k v o reach chosen. reasons k v o (follows whole i j k (leads i x (front i x n) j w (front j w (numbered_left (y ∷ []) m)) (before t i j w l.1 m) r rule a.rule a.numbered says) reach) chosen))))

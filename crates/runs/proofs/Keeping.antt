@@ -1,5 +1,5 @@
 -- What every list of calls keeps of a session.
-use Rattle.std.proofs.Common.{◌≡◌, ℕ, ◌+◌, ◌<◌, Bool, true, false, cond, not, ◌⊎◌, List, [], ◌∷◌, ◌++◌, length, take, ℤ, None, Ok, is_none, sym, refl, ap, ◌∙◌, subst, ap₂, inl, inr, ⊎_elim, arith}
+use Rattle.std.proofs.Common.{◌≡◌, ℕ, ◌+◌, ◌<◌, Bool, true, false, cond, not, List, [], ◌∷◌, ◌++◌, length, take, ℤ, None, is_none, sym, refl, ap, ◌∙◌, subst, ap₂, arith}
 use Rattle.std.proofs.lemmas.List.{append-nil, map_push, length_push, length-take-le, take-map}
 use Rattle.std.proofs.lemmas.Bool.{leb-false, and_from}
 use Rattle.literals.specs.declared.literal.Literal.{Literal}
@@ -18,12 +18,10 @@ use Rattle.runs.specs.declared.calls.State.TheVariants.{Unsettled, Settled, Clas
 use Rattle.runs.specs.declared.calls.Clash.{Clash}
 use Rattle.runs.specs.declared.calls.Call.{Call}
 use Rattle.runs.specs.declared.calls.Call.TheVariants.{Settle, Choose, Back, BackFromClash, Close}
-use Rattle.runs.specs.declared.calls.Reply.TheVariants.{Done}
 use Rattle.runs.specs.Views.{View, opened, standing, step}
 use Rattle.runs.specs.Calls.{Answered, checks, is_shut, is_clashed, is_unsettled, state_by, Said, SettledBy, Chose, WentBack, Closed, Did, Does, refused, done}
 use Rattle.runs.specs.Runs.{Event, event, Run, none, then, chosen_after, chosen_from, chosen_by}
 use Rattle.runs.specs.Laws.{chosen_in}
-use Rattle.runs.proofs.Verdicts.{true_false}
 use Rattle.runs.proofs.Trails.{Trail, empty, chose, locked, numbers}
 use Rattle.runs.proofs.Levels.{back_to, settle_trail}
 
@@ -36,27 +34,13 @@ pub record Kept (rules : List Meaning) (c : List ℤ) (v : View) : Type 0 where
   pub quiet : v.state ≡ Settled → Answers rules (standing v.trail) Quiet
   pub broken : (r : ℕ) → v.state ≡ Clashed r → Answers rules (standing v.trail) (Broken r)
 
--- ---- states are told apart
-
-settled_not_clashed : {A : Type 0} (s : State) (r : ℕ) → s ≡ Settled → s ≡ Clashed r → A
-settled_not_clashed s r p q = let z : ◌≡◌ {A = ℕ} 0 1 = cc in absurd (omega arith)
-
-neither : {A : Type 0} (s : State) → (is_unsettled s ≡ true) ⊎ (is_shut s ≡ true) → s ≡ Settled → A
-neither s h e = ⊎_elim (λ p. true_false p (ap is_unsettled e)) (λ p. true_false p (ap is_shut e)) h
-
-nor : {A : Type 0} (s : State) (r : ℕ) → (is_unsettled s ≡ true) ⊎ (is_shut s ≡ true) → s ≡ Clashed r → A
-nor s r h e = ⊎_elim (λ p. true_false p (ap is_unsettled e)) (λ p. true_false p (ap is_shut e)) h
-
-clashed_rule : (s : State) (q r : ℕ) → s ≡ Clashed q → s ≡ Clashed r → q ≡ r
-clashed_rule s q r a b = cc
+-- ---- what the checks say of a call that is done
 
 only_settled : (s : State) → is_shut s ≡ false → is_clashed s ≡ false → is_unsettled s ≡ false → s ≡ Settled
-only_settled Unsettled p q r = let z : ◌≡◌ {A = ℕ} 0 1 = cc in absurd (omega arith)
+only_settled Unsettled p q r = cc
 only_settled Settled p q r = refl
-only_settled (Clashed k) p q r = let z : ◌≡◌ {A = ℕ} 0 1 = cc in absurd (omega arith)
-only_settled Shut p q r = let z : ◌≡◌ {A = ℕ} 0 1 = cc in absurd (omega arith)
-
--- ---- what the checks say of a call that is done
+only_settled (Clashed k) p q r = cc
+only_settled Shut p q r = cc
 
 -- a literal is chosen only from a settled session, and only a free one
 pub record Choosable (v : View) (l : Literal) : Type 0 where
@@ -85,14 +69,14 @@ module _ (rules : List Meaning) where
       let less : k < length i.chosen = omega (arith, i.level) in
       let l = back_to rules k i.trail less in
       let n : length (take k i.chosen) ≡ k = length-take-le k i.chosen (omega arith) in
-      subst (λ (x : View). Kept rules (take k c) x) (sym b.view)
+      rw b.view
       (record {
         chosen = take k i.chosen;
         named = sym (take-map number k i.chosen) ∙ ap (take k) i.named;
         trail = l.trail;
         level = sym n;
         quiet = λ e. l.rests;
-        broken = λ r e. settled_not_clashed Settled r refl e;
+        broken = λ r e. absurd cc;
       })
 
   settle_keeps : (c : List ℤ) (v w : View) (a : Answered) → Kept rules c v → (s : SettledBy rules v a w) → Kept rules c w
@@ -110,35 +94,35 @@ module _ (rules : List Meaning) where
           }
 
       by : (d : Verdict) → Answers rules (standing w.trail) d → w.state ≡ state_by d → Said rules v w d a → Kept rules c w
-      by Quiet h e said = made (λ _. h) (λ r f. settled_not_clashed w.state r e f)
+      by Quiet h e said = made (λ _. h) (λ r f. absurd cc)
       by (Broken q) h e said =
-          made (λ f. settled_not_clashed w.state q f e) (λ r f. subst (λ (p : ℕ). Answers rules (standing w.trail) (Broken p)) (clashed_rule w.state q r e f) h)
+          made (λ f. absurd cc) (λ r f. let same : q ≡ r = cc in rw (sym same) h)
       by (Forced r l) h e said = absurd said
 
   choose_keeps : (c : List ℤ) (v w : View) (n : ℤ) (a : Answered) → Kept rules c v → None ≡ first_failed (checks v (Choose n)) → Chose v n a w → Kept rules (c ++ n ∷ []) w
   choose_keeps c v w n a i p q =
       let l = q.literal in
       let can = choosable v l (subst (λ (m : ℤ). None ≡ first_failed (checks v (Choose m))) (sym q.named) p) in
-      subst (λ (x : View). Kept rules (c ++ n ∷ []) x) (sym q.view)
+      rw q.view
       (record {
         chosen = i.chosen ++ l ∷ [];
         named = map_push number i.chosen l ∙ ap₂ (λ (ns : List ℤ) (m : ℤ). ns ++ m ∷ []) i.named q.named;
         trail = chose (step l (v.level + 1) None) i.trail (i.quiet can.from) can.free (ap (λ (m : ℕ). m + 1) i.level) refl;
         level = ap (λ (m : ℕ). m + 1) i.level ∙ sym (length_push i.chosen l);
-        quiet = λ e. neither Unsettled (inl refl) e;
-        broken = λ r e. nor Unsettled r (inl refl) e;
+        quiet = λ e. absurd cc;
+        broken = λ r e. absurd cc;
       })
 
   close_keeps : (c : List ℤ) (v w : View) (a : Answered) → Kept rules c v → Closed v a w → Kept rules c w
   close_keeps c v w a i z =
-      subst (λ (x : View). Kept rules c x) (sym z.view)
+      rw z.view
       (record {
         chosen = i.chosen;
         named = i.named;
         trail = i.trail;
         level = i.level;
-        quiet = λ e. neither Shut (inr refl) e;
-        broken = λ r e. nor Shut r (inr refl) e;
+        quiet = λ e. absurd cc;
+        broken = λ r e. absurd cc;
       })
 
   -- the chosen literals do not change where the answer is not that the call is done
@@ -147,20 +131,15 @@ module _ (rules : List Meaning) where
   settle_chosen c v w a (Broken r) said = ap (λ (x : Answered). chosen_after c (event Settle x)) said.is
   settle_chosen c v w a (Forced r l) said = absurd said
 
-  done_chosen : (c : List ℤ) (call : Call) (a : Answered) → a ≡ Ok Done → chosen_after c (event call a) ≡ chosen_after c (event call (Ok Done))
-  done_chosen c call a e = ap (λ (x : Answered). chosen_after c (event call x)) e
-
   did_keeps : (c : List ℤ) (v w : View) (call : Call) (a : Answered) → Kept rules c v → None ≡ first_failed (checks v call) → Did rules v call a w → Kept rules (chosen_after c (event call a)) w
-  did_keeps c v w Settle a i p d = subst (λ (ns : List ℤ). Kept rules ns w) (sym (settle_chosen c v w a d.verdict d.said)) (settle_keeps c v w a i d)
-  did_keeps c v w (Choose n) a i p d = subst (λ (ns : List ℤ). Kept rules ns w) (sym (done_chosen c (Choose n) a d.answer)) (choose_keeps c v w n a i p d)
-  did_keeps c v w (Back k) a i p d = subst (λ (ns : List ℤ). Kept rules ns w) (sym (done_chosen c (Back k) a d.answer)) (back_keeps c v w k a i (below_back v k p) d)
-  did_keeps c v w (BackFromClash x k) a i p d =
-      subst (λ (ns : List ℤ). Kept rules ns w) (sym (done_chosen c (BackFromClash x k) a d.answer)) (back_keeps c v w k a i (below_clash v x k p) d)
-  did_keeps c v w (Close x) a i p d = subst (λ (ns : List ℤ). Kept rules ns w) (sym (done_chosen c (Close x) a d.answer)) (close_keeps c v w a i d)
+  did_keeps c v w Settle a i p d = rw (settle_chosen c v w a d.verdict d.said) (settle_keeps c v w a i d)
+  did_keeps c v w (Choose n) a i p d = rw d.answer (choose_keeps c v w n a i p d)
+  did_keeps c v w (Back k) a i p d = rw d.answer (back_keeps c v w k a i (below_back v k p) d)
+  did_keeps c v w (BackFromClash x k) a i p d = rw d.answer (back_keeps c v w k a i (below_clash v x k p) d)
+  did_keeps c v w (Close x) a i p d = rw d.answer (close_keeps c v w a i d)
 
   does_keeps : (c : List ℤ) (v w : View) (call : Call) (a : Answered) → Kept rules c v → Does rules v call a w → Kept rules (chosen_after c (event call a)) w
-  does_keeps c v w call a i (refused e p q r) =
-      subst (λ (ns : List ℤ). Kept rules ns w) (sym (ap (λ (x : Answered). chosen_after c (event call x)) q)) (subst (λ (u : View). Kept rules c u) (sym r) i)
+  does_keeps c v w call a i (refused e p q r) = rw (q, r) i
   does_keeps c v w call a i (done p d) = did_keeps c v w call a i (sym p) d
 
   -- ---- lists of calls
@@ -176,11 +155,11 @@ module _ (rules : List Meaning) where
         named = refl;
         trail = empty;
         level = refl;
-        quiet = λ e. neither Unsettled (inl refl) e;
-        broken = λ r e. nor Unsettled r (inl refl) e;
+        quiet = λ e. absurd cc;
+        broken = λ r e. absurd cc;
       }
   run_keeps (then {es = es} {w = v} {x = w} {c = c} {a = a} run d) =
-      subst (λ (ns : List ℤ). Kept rules ns w) (sym (chosen_push [] es (event c a))) (does_keeps (chosen_by es) v w c a (run_keeps run) d)
+      rw (chosen_push [] es (event c a)) (does_keeps (chosen_by es) v w c a (run_keeps run) d)
 
 -- ---- the chosen literals as the trail has them
 

@@ -47,8 +47,8 @@ module _ (rules : List Meaning) where
       → (d : List Literal) × Trail rules d (take n (t ++ y ∷ []))
   whole_or_part n t y c tr part h =
       ⊎_elim (λ (p : n < length t + 1).
-      let d = part (omega arith) in (d.0, subst (λ (u : List Step). Trail rules d.0 u) (sym (take-append-le n t (y ∷ []) (omega arith))) d.1))
-      (λ (p : length t + 1 ≤ n). (c, subst (λ (u : List Step). Trail rules c u) (sym (take_all n (t ++ y ∷ []) (omega (arith, length_push t y)))) tr))
+      let d = part (omega arith) in (d.0, rw (take-append-le n t (y ∷ []) (omega arith)) d.1))
+      (λ (p : length t + 1 ≤ n). (c, rw (take_all n (t ++ y ∷ []) (omega (arith, length_push t y))) tr))
       (cases_lt n (length t + 1))
 
   -- no level is above the number of chosen literals
@@ -62,7 +62,7 @@ module _ (rules : List Meaning) where
   -- ---- fronts of a trail
 
   prefix : {c : List Literal} {t : List Step} (n : ℕ) → Trail rules c t → n ≤ length t → (d : List Literal) × Trail rules d (take n t)
-  prefix n empty h = let e : n ≡ 0 = omega arith in ([], subst (λ (u : List Step). Trail rules [] u) (sym (ap (λ (m : ℕ). take m []) e)) empty)
+  prefix n empty h = let e : n ≡ 0 = omega arith in ([], rw e empty)
   prefix n (chose {c = c} {t = t} y back q f e z) h =
       whole_or_part n t y (c ++ y.literal ∷ []) (chose {t = t} y back q f e z) (λ p. prefix n back p) h
   prefix n (locked {c = c} {t = t} y back r a e z) h = whole_or_part n t y c (locked {t = t} y back r a e z) (λ p. prefix n back p) h
@@ -83,7 +83,7 @@ module _ (rules : List Meaning) where
       let z : suc n - 1 ≡ n = omega arith in
       let s : n + 1 ≡ suc n = omega arith in
       let x : Step = get_or t n (step_there t h) in
-      let here : Numbered t (suc n) x = subst (λ (i : ℕ). Numbered t i x) s (at_numbered t n (step_there t h) (omega arith)) in
+      let here : Numbered t (suc n) x = rw (sym s) (at_numbered t n (step_there t h) (omega arith)) in
       let last = last_level p.1 (subst (λ (i : ℕ). Numbered (take (suc n) t) i x) (sym m) (numbered_take (suc n) here (omega arith))) in
       let small = low x here in
       sym (up_to_all k p.1 (omega arith)) ∙ e
@@ -113,22 +113,22 @@ module _ (rules : List Meaning) where
           let a : take k (c ++ y.literal ∷ []) ≡ take k c = fewer (omega arith) in
           let b : up_to k (t ++ y ∷ []) ≡ up_to k t = cut (omega arith) in
           record {
-            trail = subst (λ (d : List Literal). Trail rules d (up_to k (t ++ y ∷ []))) (sym a) (subst (λ (u : List Step). Trail rules (take k c) u) (sym b) (ih p).trail);
-            rests = subst (λ (u : List Step). Answers rules (standing u) Quiet) (sym b) (ih p).rests;
+            trail = rw a (rw b (ih p).trail);
+            rests = rw b (ih p).rests;
           }
       go ih (inr p) =
           let d : k ≤ length c = omega (arith, n) in
           let a : take k (c ++ y.literal ∷ []) ≡ c = fewer d ∙ take_all k c (omega arith) in
           let b : up_to k (t ++ y ∷ []) ≡ t = cut d ∙ up_to_all k back p in
           record {
-            trail = subst (λ (d : List Literal). Trail rules d (up_to k (t ++ y ∷ []))) (sym a) (subst (λ (u : List Step). Trail rules c u) (sym b) back);
-            rests = subst (λ (u : List Step). Answers rules (standing u) Quiet) (sym b) q;
+            trail = rw a (rw b back);
+            rests = rw b q;
           }
   back_to k (locked {c = c} {t = t} y back r a e z) h =
       let b : up_to k (t ++ y ∷ []) ≡ up_to k t = above k t y (omega arith) in
       record {
-        trail = subst (λ (u : List Step). Trail rules (take k c) u) (sym b) (back_to k back h).trail;
-        rests = subst (λ (u : List Step). Answers rules (standing u) Quiet) (sym b) (back_to k back h).rests;
+        trail = rw b (back_to k back h).trail;
+        rests = rw b (back_to k back h).rests;
       }
 
   -- ---- settling

@@ -1,5 +1,5 @@
 -- For every view and call there is exactly one answer and one outcome.
-use Rattle.std.proofs.Common.{◌≡◌, ℕ, zero, suc, ◌+◌, ◌≤◌, true, false, List, [], ◌∷◌, ◌++◌, length, ℤ, pos, negsuc, neg_ℤ, Some, None, Ok, Err, Option, sym, refl, ap, ◌∙◌, subst, arith}
+use Rattle.std.proofs.Common.{◌≡◌, ℕ, zero, suc, ◌+◌, ◌≤◌, true, false, List, [], ◌∷◌, ◌++◌, length, ℤ, pos, negsuc, neg_ℤ, Some, None, Ok, Err, Option, sym, refl, ap, ◌∙◌, arith}
 use Rattle.std.proofs.lemmas.List.{length_push}
 use Rattle.std.proofs.lemmas.Bool.{or_parts, ltb-false}
 use Rattle.literals.specs.declared.literal.Literal.{Literal}
@@ -17,7 +17,6 @@ use Rattle.rules.proofs.Numbers.{numbered_one}
 use Rattle.shelf.specs.Meanings.{Meaning, Answers}
 use Rattle.runs.specs.declared.step.Step.{Step}
 use Rattle.runs.specs.declared.calls.State.{State}
-use Rattle.runs.specs.declared.calls.State.TheVariants.{Unsettled}
 use Rattle.runs.specs.declared.calls.Call.{Call}
 use Rattle.runs.specs.declared.calls.Call.TheVariants.{Settle, Choose, Back, BackFromClash, Close}
 use Rattle.runs.specs.declared.calls.Reply.TheVariants as reply
@@ -29,25 +28,20 @@ use Rattle.runs.proofs.Trails.{standing-push}
 
 -- ---- settling ends in one way
 
-not_forced : {A : Type 0} (r : ℕ) (l : Literal) (v : Verdict) → v ≡ Forced r l → (v ≡ Quiet → A) × ((q : ℕ) → v ≡ Broken q → A)
-not_forced r l v e = ((λ f. let z : ◌≡◌ {A = ℕ} 0 1 = cc in absurd (omega arith)), (λ q f. let z : ◌≡◌ {A = ℕ} 0 1 = cc in absurd (omega arith)))
-
-forced_parts : (q r : ℕ) (k l : Literal) → Forced q k ≡ Forced r l → (q ≡ r) × (k ≡ l)
-forced_parts q r k l e = (cc, cc)
-
 module _ (rules : List Meaning) (level : ℕ) where
   settles_one : {t u u' : List Step} {v v' : Verdict} → Settles rules level t u v → Settles rules level t u' v' → (u ≡ u') × (v ≡ v')
   settles_one (quiet {t = t} a) (quiet b) = (refl, refl)
   settles_one (quiet {t = t} a) (broken b) = (refl, answers_one rules (standing t) _ _ a b)
-  settles_one (quiet {t = t} a) (locks {r = r} {l = l} b s) = (not_forced r l Quiet (answers_one rules (standing t) _ _ a b)).0 refl
+  settles_one (quiet {t = t} a) (locks {r = r} {l = l} b s) = let e = answers_one rules (standing t) Quiet (Forced r l) a b in absurd cc
   settles_one (broken {t = t} a) (quiet b) = (refl, answers_one rules (standing t) _ _ a b)
   settles_one (broken {t = t} a) (broken b) = (refl, answers_one rules (standing t) _ _ a b)
-  settles_one (broken {t = t} {r = q} a) (locks {r = r} {l = l} b s) = (not_forced r l (Broken q) (answers_one rules (standing t) _ _ a b)).1 q refl
-  settles_one (locks {t = t} {r = r} {l = l} a s) (quiet b) = (not_forced r l Quiet (answers_one rules (standing t) _ _ b a)).0 refl
-  settles_one (locks {t = t} {r = r} {l = l} a s) (broken {r = q} b) = (not_forced r l (Broken q) (answers_one rules (standing t) _ _ b a)).1 q refl
+  settles_one (broken {t = t} {r = q} a) (locks {r = r} {l = l} b s) = let e = answers_one rules (standing t) (Broken q) (Forced r l) a b in absurd cc
+  settles_one (locks {t = t} {r = r} {l = l} a s) (quiet b) = let e = answers_one rules (standing t) Quiet (Forced r l) b a in absurd cc
+  settles_one (locks {t = t} {r = r} {l = l} a s) (broken {r = q} b) = let e = answers_one rules (standing t) (Broken q) (Forced r l) b a in absurd cc
   settles_one (locks {t = t} {r = r} {l = l} a s) (locks {u = u} {v = v} {r = q} {l = k} b s') =
-      let e = forced_parts q r k l (answers_one rules (standing t) _ _ b a) in
-      settles_one s (subst (λ (m : Literal). Settles rules level (t ++ step m level (Some r) ∷ []) u v) e.1 (subst (λ (n : ℕ). Settles rules level (t ++ step k level (Some n) ∷ []) u v) e.0 s'))
+      let e = answers_one rules (standing t) (Forced q k) (Forced r l) b a in
+      let same : t ++ step k level (Some q) ∷ [] ≡ t ++ step l level (Some r) ∷ [] = cc in
+      settles_one s (rw (sym same) s')
 
   pub settles_answer : {t u : List Step} {v : Verdict} → Settles rules level t u v → Answers rules (standing u) v
   settles_answer (quiet a) = a
@@ -62,8 +56,8 @@ module _ (rules : List Meaning) (level : ℕ) where
     pub final : (r : ℕ) (l : Literal) → verdict ≡ Forced r l → ⊥
 
   turn : (t : List Step) → ((r : ℕ) (l : Literal) → Answers rules (standing t) (Forced r l) → Ends (t ++ step l level (Some r) ∷ [])) → (v : Verdict) → Answers rules (standing t) v → Ends t
-  turn t next Quiet a = record { trail = t; verdict = Quiet; settles = quiet a; longer = (0, omega arith); final = λ r l e. let z : ◌≡◌ {A = ℕ} 0 1 = cc in omega arith }
-  turn t next (Broken q) a = record { trail = t; verdict = Broken q; settles = broken a; longer = (0, omega arith); final = λ r l e. let z : ◌≡◌ {A = ℕ} 0 1 = cc in omega arith }
+  turn t next Quiet a = record { trail = t; verdict = Quiet; settles = quiet a; longer = (0, omega arith); final = λ r l e. cc }
+  turn t next (Broken q) a = record { trail = t; verdict = Broken q; settles = broken a; longer = (0, omega arith); final = λ r l e. cc }
   turn t next (Forced r l) a =
       let rest = next r l a in
       let n = length_push t (step l level (Some r)) in
@@ -80,11 +74,11 @@ module _ (rules : List Meaning) (level : ℕ) where
 
 -- ---- what is done is one thing
 
+abbrev view : State → ℕ → List Step → View
+view s n t = record { state = s; level = n; trail = t }
+
 view_same : (v w : View) → v.state ≡ w.state → v.level ≡ w.level → v.trail ≡ w.trail → v ≡ w
-view_same v w p q r =
-    ap (λ (s : State). record { state = s; level = v.level; trail = v.trail }) p
-    ∙ ap (λ (n : ℕ). record { state = w.state; level = n; trail = v.trail }) q
-    ∙ ap (λ (t : List Step). record { state = w.state; level = w.level; trail = t }) r
+view_same v w p q r = let e : view v.state v.level v.trail ≡ view w.state w.level w.trail = cc in e
 
 -- a number that is not refused is that of a literal
 pub literal_there : (n : ℤ) → no_literal n ≡ false → (l : Literal) × (number l ≡ n)
@@ -123,19 +117,16 @@ module _ (rules : List Meaning) (v : View) where
       let s = answered e e.verdict refl e.settles in
       (s.0, after e, record { verdict = e.verdict; settles = e.settles; said = s.1; state = refl; level = refl })
 
-  grown-same : (m n k j : ℕ) → k + m ≡ j → k + n ≡ j → m ≡ n
-  grown-same m n k j p q = omega arith
-
   said_one : (w x : View) (d : Verdict) (a b : Answered) → w.trail ≡ x.trail → Said rules v w d a → Said rules v x d b → a ≡ b
-  said_one w x Quiet a b e p q = p.2 ∙ ap (λ (n : ℕ). Ok (reply.Grown n)) (grown-same p.0 q.0 (length v.trail) (length x.trail) (p.1 ∙ ap length e) q.1) ∙ sym q.2
-  said_one w x (Broken r) a b e p q = p.is ∙ ap (λ (m : Meaning). Ok (reply.Clash (clash r v.level) m.letter)) (numbered_one p.numbered q.numbered) ∙ sym q.is
+  said_one w x Quiet a b e p q = let same : p.0 ≡ q.0 = omega (arith, p.1, q.1, ap length e) in cc (p.2, q.2)
+  said_one w x (Broken r) a b e p q = cc (numbered_one p.numbered q.numbered)
   said_one w x (Forced r l) a b e p q = absurd p
 
   one_settle : Unique (SettledBy rules v)
   one_settle a b w x p q =
       let e = settles_one rules v.level p.settles q.settles in (
-        said_one w x q.verdict a b e.0 (subst (λ (d : Verdict). Said rules v w d a) e.1 p.said) q.said,
-        view_same w x (p.state ∙ ap state_by e.1 ∙ sym q.state) (p.level ∙ sym q.level) e.0,
+        said_one w x q.verdict a b e.0 (rw (sym e.1) p.said) q.said,
+        view_same w x (cc) (cc) e.0,
       )
 
   -- ---- choosing
@@ -146,7 +137,7 @@ module _ (rules : List Meaning) (v : View) where
   one_choose : (n : ℤ) → Unique (Chose v n)
   one_choose n a b w x p q =
       let e = number_same p.literal q.literal (p.named ∙ sym q.named) in
-      (p.answer ∙ sym q.answer, p.view ∙ ap (λ (l : Literal). record { state = Unsettled; level = v.level + 1; trail = v.trail ++ step l (v.level + 1) None ∷ [] }) e ∙ sym q.view)
+      (cc, cc)
 
   -- ---- every call
 
@@ -160,16 +151,16 @@ module _ (rules : List Meaning) (v : View) where
   one_did : (c : Call) → Unique (Did rules v c)
   one_did Settle a b w x p q = one_settle a b w x p q
   one_did (Choose n) a b w x p q = one_choose n a b w x p q
-  one_did (Back k) a b w x p q = (p.answer ∙ sym q.answer, p.view ∙ sym q.view)
-  one_did (BackFromClash y k) a b w x p q = (p.answer ∙ sym q.answer, p.view ∙ sym q.view)
-  one_did (Close y) a b w x p q = (p.answer ∙ sym q.answer, p.view ∙ sym q.view)
+  one_did (Back k) a b w x p q = (cc, cc)
+  one_did (BackFromClash y k) a b w x p q = (cc, cc)
+  one_did (Close y) a b w x p q = (cc, cc)
 
   one_refused : (c : Call) (e : Refusal) → first_failed (checks v c) ≡ Some e → (a : Answered) (w : View) → Does rules v c a w → (a ≡ Err e) × (w ≡ v)
-  one_refused c e p a w (refused d q r s) = let same : d ≡ e = cc in (r ∙ ap Err same, s)
-  one_refused c e p a w (done q d) = let z : ◌≡◌ {A = ℕ} 0 1 = cc in absurd (omega arith)
+  one_refused c e p a w (refused d q r s) = (cc, s)
+  one_refused c e p a w (done q d) = cc
 
   one_done : (c : Call) → first_failed (checks v c) ≡ None → (a b : Answered) (w x : View) → Did rules v c b x → Does rules v c a w → (a ≡ b) × (w ≡ x)
-  one_done c p a b w x d (refused e q r s) = let z : ◌≡◌ {A = ℕ} 0 1 = cc in absurd (omega arith)
+  one_done c p a b w x d (refused e q r s) = cc
   one_done c p a b w x d (done q d') = one_did c a b w x d' d
 
   pub one : (c : Call) → One rules v c

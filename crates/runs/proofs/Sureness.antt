@@ -1,5 +1,5 @@
 -- Settled is the least stable set over the chosen literals, clashed is hopeless, and two sessions agree.
-use Rattle.std.proofs.Common.{◌≡◌, ℕ, Bool, true, false, not, List, length, ℤ, sym, refl, ap, ◌∙◌, subst, arith}
+use Rattle.std.proofs.Common.{◌≡◌, ℕ, Bool, true, false, not, List, length, ℤ, sym, refl, ap, ◌∙◌, arith}
 use Rattle.literals.specs.declared.literal.Literal.{Literal}
 use Rattle.literals.specs.declared.setting.Setting.{Setting}
 use Rattle.literals.specs.Literals.{number, opposite}
@@ -16,7 +16,6 @@ use Rattle.runs.specs.Views.{View, literals_on, standing}
 use Rattle.runs.specs.Runs.{chosen_by}
 use Rattle.runs.specs.Reasons.{Meets}
 use Rattle.runs.specs.Laws.{Holds, Stable, Least, Full, Hopeless, Same, Alike, EverySure, EveryTwoAgree}
-use Rattle.runs.proofs.Verdicts.{true_false}
 use Rattle.runs.proofs.Trails.{Trail, empty, chose, locked, numbers, least, holds_chosen, count}
 use Rattle.runs.proofs.Keeping.{Kept, run_keeps, chosen_told}
 
@@ -24,13 +23,13 @@ use Rattle.runs.proofs.Keeping.{Kept, run_keeps, chosen_told}
 
 module _ (rules : List Meaning) (lawful : Every rules Lawful) (c : List ℤ) (v : View) (i : Kept rules c v) where
   pub within : (t : Setting) → Stable rules c t → standing v.trail ⊆ t
-  within t st = least rules lawful t i.trail (subst (λ (ns : List ℤ). Stable rules ns t) (sym i.named) st)
+  within t st = least rules lawful t i.trail (rw i.named st)
 
   pub settled_least : v.state ≡ Settled → Least rules c (standing v.trail)
   settled_least e =
       record {
         stable = record {
-          holds = subst (λ (ns : List ℤ). Holds ns (standing v.trail)) i.named (holds_chosen rules i.trail);
+          holds = rw (sym i.named) (holds_chosen rules i.trail);
           meets = λ r m n. (i.quiet e r m n).unbroken;
           still = λ r m n l f. (i.quiet e r m n).still l f;
         };
@@ -43,7 +42,7 @@ module _ (rules : List Meaning) (lawful : Every rules Lawful) (c : List ℤ) (v 
       record {
         holds = holds;
         meets = meets;
-        still = λ r m n l f. let p = free_parts t l f.free in true_false (full l ∙ ap not p.0) p.1;
+        still = λ r m n l f. let p = free_parts t l f.free in cc (full l, p.0, p.1);
       }
 
   pub clashed_hopeless : (r : ℕ) → v.state ≡ Clashed r → Hopeless rules c (standing v.trail) r
@@ -52,7 +51,7 @@ module _ (rules : List Meaning) (lawful : Every rules Lawful) (c : List ℤ) (v 
       record {
         broken = record { rule = b.rule; numbered = b.numbered; breaks = b.here; lowest = λ q m n p. (b.before q m n p).unbroken };
         hopeless = λ t full meets holds.
-            true_false ((lawful r b.rule b.numbered).grows _ t (within t (full_stable t full meets holds)) b.here) (meets r b.rule b.numbered);
+            cc ((lawful r b.rule b.numbered).grows _ t (within t (full_stable t full meets holds)) b.here, meets r b.rule b.numbered);
       }
 
 pub every_sure : (rules : List Meaning) → Every rules Lawful → EverySure rules
@@ -79,7 +78,7 @@ free_within s t l sub f =
     less k q = at (stands s k) refl
       where
         at : (b : Bool) → stands s k ≡ b → stands s k ≡ false
-        at true e = true_false (sub k e) q
+        at true e = absurd (cc (sub k e))
         at false e = e
 
 pub chosen_once : (rules : List Meaning) {c : List Literal} {t : List Step} → Trail rules c t → distinct c ≡ true
@@ -122,7 +121,7 @@ module _ (rules others : List Meaning) (lawful : Every rules Lawful) (lawful' : 
   never_both p r q =
       let b = j.broken r q in
       let o = m.back r b.rule b.numbered in
-      true_false ((lawful' r b.rule b.numbered).grows _ _ (into p) b.here) (o.3 (standing v.trail) ∙ (i.quiet p o.0 o.1 o.2).unbroken)
+      cc ((lawful' r b.rule b.numbered).grows _ _ (into p) b.here, o.3 (standing v.trail), (i.quiet p o.0 o.1 o.2).unbroken)
 
 pub every_two_agree : (rules : List Meaning) → Every rules Lawful → EveryTwoAgree rules
 every_two_agree rules lawful others lawful' m es fs v w run run' e =
@@ -145,7 +144,7 @@ every_two_agree rules lawful others lawful' m es fs v w run run' e =
     j = run_keeps others run'
 
     same : Same (numbers i.chosen) (numbers j.chosen)
-    same = subst (λ (ns : List ℤ). Same ns (numbers j.chosen)) (sym i.named) (subst (λ (ns : List ℤ). Same c ns) (sym j.named) e)
+    same = rw i.named (rw j.named e)
 
     alike : v.state ≡ Settled → w.state ≡ Settled → Alike v w
     alike p q =

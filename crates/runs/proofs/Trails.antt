@@ -1,5 +1,5 @@
 -- The trails that choosing and settling make, with the literals chosen; and at the heart: every stable set contains them.
-use Rattle.std.proofs.Common.{◌≡◌, ℕ, ◌+◌, Bool, true, false, not, ◌⊎◌, List, [], ◌∷◌, ◌++◌, map, length, ℤ, Some, None, sym, refl, ap, ◌∙◌, subst, inl, inr, ⊎_elim}
+use Rattle.std.proofs.Common.{◌≡◌, ℕ, ◌+◌, Bool, true, false, not, ◌⊎◌, List, [], ◌∷◌, ◌++◌, map, length, ℤ, Some, None, sym, refl, ap, ◌∙◌, inl, inr, ⊎_elim}
 use Rattle.std.proofs.lemmas.List.{map_push, length-map}
 use Rattle.std.proofs.lemmas.Bool.{and_from}
 use Rattle.literals.specs.declared.literal.Literal.{Literal}
@@ -18,7 +18,6 @@ use Rattle.runs.specs.declared.step.Step.{Step}
 use Rattle.runs.specs.Views.{literals_on, standing}
 use Rattle.runs.specs.Reasons.{Meets, Still}
 use Rattle.runs.specs.Laws.{Holds, Stable}
-use Rattle.runs.proofs.Verdicts.{true_false}
 
 -- a literal is chosen where all is quiet, and locked by what the scan forces; a chosen one begins a level
 pub data Trail (rules : List Meaning) : List Literal → List Step → Type 0 where
@@ -59,10 +58,10 @@ pub plus_grows : (s x : Setting) (l : Literal) → s ⊆ x → plus s l ⊆ plus
 plus_grows s x l sub = plus_within s (plus x l) l (λ m h. plus_keeps x l m (sub m h)) (plus-has x l)
 
 number_push : (c : List Literal) (l k : Literal) → (number k ∈ numbers c) ⊎ (number k ≡ number l) → number k ∈ numbers (c ++ l ∷ [])
-number_push c l k h = subst (λ (ns : List ℤ). number k ∈ ns) (sym (map_push number c l)) (push_in (numbers c) (number l) (number k) h)
+number_push c l k h = rw (map_push number c l) (push_in (numbers c) (number l) (number k) h)
 
 push-number : (c : List Literal) (l k : Literal) → number k ∈ numbers (c ++ l ∷ []) → (number k ∈ numbers c) ⊎ (number k ≡ number l)
-push-number c l k h = in_push (numbers c) (number l) (number k) (subst (λ (ns : List ℤ). number k ∈ ns) (map_push number c l) h)
+push-number c l k h = in_push (numbers c) (number l) (number k) (rw (sym (map_push number c l)) h)
 
 fewer_chosen : (rules : List Meaning) (c : List Literal) (l : Literal) (x : Setting) → Stable rules (numbers (c ++ l ∷ [])) x → Stable rules (numbers c) x
 fewer_chosen rules c l x st = record { holds = λ k h. st.holds k (number_push c l k (inl h)); meets = st.meets; still = st.still }
@@ -77,18 +76,18 @@ module _ (rules : List Meaning) (lawful : Every rules Lawful) where
 
       go : (b : Bool) → stands x l ≡ b → (d : Bool) → stands x (opposite l) ≡ d → stands x l ≡ true
       go true e d e' = e
-      go false e true e' = true_false (law.grows _ x (plus_within s x (opposite l) sub e') against) (meets r m at)
+      go false e true e' = absurd (cc (law.grows _ x (plus_within s x (opposite l) sub e') against, meets r m at))
       go false e false e' =
           let nor : free x l ≡ true = and_from _ _ (ap not e) (ap not e') in
           absurd (still r m at l (record { unbroken = meets r m at; free = nor; against = law.grows _ _ (plus_grows s x (opposite l) sub) against }))
 
   pub least : {c : List Literal} {t : List Step} (x : Setting) → Trail rules c t → Stable rules (numbers c) x → standing t ⊆ x
-  least x empty st = λ l h. true_false h (nothing-stands l)
+  least x empty st = λ l h. absurd (cc (nothing-stands l))
   least x (chose {c = c} {t = t} y back q f e z) st =
-      subst (λ (s : Setting). s ⊆ x) (sym (standing-push t y))
+      rw (standing-push t y)
       (plus_within (standing t) x y.literal (least x back (fewer_chosen rules c y.literal x st)) (st.holds y.literal (number_push c y.literal y.literal (inr refl))))
   least x (locked {c = c} {t = t} y back r a e z) st =
-      subst (λ (s : Setting). s ⊆ x) (sym (standing-push t y))
+      rw (standing-push t y)
       (plus_within (standing t) x y.literal (least x back st)
       (forced_in (standing t) x r a.rule y.literal a.numbered a.here.forced.against (least x back st) st.meets st.still))
 
@@ -96,9 +95,9 @@ module _ (rules : List Meaning) (lawful : Every rules Lawful) where
 pub holds_chosen : (rules : List Meaning) {c : List Literal} {t : List Step} → Trail rules c t → Holds (numbers c) (standing t)
 holds_chosen rules empty l h = absurd h
 holds_chosen rules (chose {c = c} {t = t} y back q f e z) l h =
-    subst (λ (s : Setting). stands s l ≡ true) (sym (standing-push t y))
+    rw (standing-push t y)
     (⊎_elim (λ p. plus_keeps (standing t) y.literal l (holds_chosen rules back l p))
-    (λ (d : number l ≡ number y.literal). subst (λ (k : Literal). stands (plus (standing t) y.literal) k ≡ true) (sym (number_same l y.literal d)) (plus-has (standing t) y.literal))
+    (λ (d : number l ≡ number y.literal). rw (number_same l y.literal d) (plus-has (standing t) y.literal))
     (push-number c y.literal l h))
 holds_chosen rules (locked {c = c} {t = t} y back r a e z) l h =
-    subst (λ (s : Setting). stands s l ≡ true) (sym (standing-push t y)) (plus_keeps (standing t) y.literal l (holds_chosen rules back l h))
+    rw (standing-push t y) (plus_keeps (standing t) y.literal l (holds_chosen rules back l h))

@@ -14,9 +14,6 @@ use Rattle.rules.proofs.Numbers.{numbered_one, numbered_low}
 use Rattle.shelf.specs.Meanings.{Meaning, Answers}
 use Rattle.shelf.proofs.Lists.{after, answers_second}
 
-pub true_false : {A : Type 0} {b : Bool} → b ≡ true → b ≡ false → A
-true_false p q = let z : ◌≡◌ {A = ℕ} 0 1 = cc in absurd (omega arith)
-
 -- ---- at most one
 
 -- of two literals one comes before the other, or they are one
@@ -52,10 +49,10 @@ module _ (rules : List Meaning) (s : Setting) where
       (cases_lt q r)
 
   same_rule : (P Q : Meaning → Type 0) (q r : ℕ) → q ≡ r → (h : Lowest (λ m. m.breaks) rules s q P) (k : Lowest (λ m. m.breaks) rules s r Q) → h.rule ≡ k.rule
-  same_rule P Q q r e h k = numbered_one (subst (λ (n : ℕ). Numbered rules n h.rule) e h.numbered) k.numbered
+  same_rule P Q q r e h k = numbered_one (rw (sym e) h.numbered) k.numbered
 
   loud_broken : Loud (λ m. m.breaks s ≡ true)
-  loud_broken m b h = true_false b h.unbroken
+  loud_broken m b h = cc
 
   loud_forced : (l : Literal) → Loud (λ m. First m.breaks s l)
   loud_forced l m f h = h.still l f.forced
@@ -69,7 +66,8 @@ module _ (rules : List Meaning) (s : Setting) where
   not_both : {A : Type 0} (q r : ℕ) (l : Literal) → Answers rules s (Broken q) → Answers rules s (Forced r l) → A
   not_both q r l h j =
       let e = lowest_one _ _ q r loud_broken (loud_forced l) h j in
-      true_false (subst (λ (m : Meaning). m.breaks s ≡ true) (same_rule _ _ q r e h j) h.here) j.here.forced.unbroken
+      let same = same_rule _ _ q r e h j in
+      absurd (cc (h.here, j.here.forced.unbroken))
 
   pub answers_one : (v w : Verdict) → Answers rules s v → Answers rules s w → v ≡ w
   answers_one Quiet Quiet h j = refl
@@ -90,8 +88,8 @@ module _ (B : Setting → Bool) (s : Setting) (whole : B s ≡ false) where
     where
       go : (a : Bool) → free s l ≡ a → (b : Bool) → B (plus s (opposite l)) ≡ b → Forces B s l ⊎ (Forces B s l → ⊥)
       go true p true q = inl (record { unbroken = whole; free = p; against = q })
-      go false p b q = inr (λ f. true_false f.free p)
-      go true p false q = inr (λ f. true_false f.against q)
+      go false p b q = inr (λ f. cc)
+      go true p false q = inr (λ f. cc)
 
   -- no literal of a switch below n is forced
   abbrev NoneBelow : ℕ → Type 0
@@ -109,18 +107,18 @@ module _ (B : Setting → Bool) (s : Setting) (whole : B s ≡ false) where
 
       before_on : (j : Literal) → Before j on → Forces B s j → ⊥
       before_on j (inl p) = none j p
-      before_on j (inr p) = λ f. let z : ◌≡◌ {A = ℕ} 0 1 = cc in omega arith
+      before_on j (inr p) = λ f. cc
 
       more : (Forces B s on → ⊥) → (Forces B s off → ⊥) → NoneBelow (n + 1)
       more a b j p f = ⊎_elim (λ (q : j.switch < n). none j q f) (λ (q : n ≤ j.switch). let e : j.switch ≡ n = omega arith in side e j.on refl f) (cases_lt j.switch n)
         where
           side : j.switch ≡ n → (o : Bool) → j.on ≡ o → Forces B s j → ⊥
-          side e true o g = a (subst (Forces B s) (literal_same j on e o) g)
-          side e false o g = b (subst (Forces B s) (literal_same j off e o) g)
+          side e true o g = a (rw (sym (literal_same j on e o)) g)
+          side e false o g = b (rw (sym (literal_same j off e o)) g)
 
       before_off : (Forces B s on → ⊥) → (j : Literal) → Before j off → Forces B s j → ⊥
       before_off a j (inl p) = none j p
-      before_off a j (inr p) = λ g. a (subst (Forces B s) (literal_same j on p.0 p.1) g)
+      before_off a j (inr p) = λ g. a (rw (sym (literal_same j on p.0 p.1)) g)
 
       at : (NoneBelow (n + 1) → ((l : Literal) × First B s l) ⊎ ((l : Literal) → Forces B s l → ⊥)) → Forces B s on ⊎ (Forces B s on → ⊥) → Forces B s off ⊎ (Forces B s off → ⊥) → ((l : Literal) × First B s l) ⊎ ((l : Literal) → Forces B s l → ⊥)
       at next (inl f) b = inl (on, record { forced = f; lowest = before_on })

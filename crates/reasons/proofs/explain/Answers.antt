@@ -15,15 +15,12 @@ returns-in_err-place-clause-refused g c =
     let free : refusal_of c.from_residual.result ≡ Some SwitchFree = search rules in
     free ∙ free_refused c.args.steps.now c.args.switch c.if-switch-lt1.false c.if-switch-gt64.false (absent c.args.steps.now c.args.switch none)
 
-pub returns-clause-refused : goal.returns-clause-refused
-returns-clause-refused g c =
+pub returns : goal.returns
+returns g c =
     let some : position (of_switch c.args.switch) c.args.steps.now ≡ Some c.in_ok-place.place = search rules in
     let f = found c.args.steps.now c.in_ok-place.place c.args.switch c.index-steps-place.result some c.index-steps-place.is in
-    standing_told c.args.steps.now c.args.switch c.if-switch-lt1.false c.if-switch-gt64.false (c.in_ok-place.place + 1) c.index-steps-place.result f.at f.switch
-
-pub returns-clause-explains : goal.returns-clause-explains
-returns-clause-explains g c =
-    let some : position (of_switch c.args.switch) c.args.steps.now ≡ Some c.in_ok-place.place = search rules in
-    let f = found c.args.steps.now c.in_ok-place.place c.args.switch c.index-steps-place.result some c.index-steps-place.is in
-    explains (g.S.Shelf.rules c.args.shelf.now) c.args.steps.now (c.in_ok-place.place + 1) c.switches.result c.reached.result c.reached.ensures c.switches.ensures c.args.switch _ c.index-steps-place.result
-    (trail_because (g.S.Shelf.rules c.args.shelf.now) c.args.steps.now (g.met.S.Shelf.lawful c.args.shelf.now) c.requires.trail) f.at f.switch (ap (λ (y : Step). y.rule) c.index-steps-place.is)
+    record {
+      refused = standing_told c.args.steps.now c.args.switch c.if-switch-lt1.false c.if-switch-gt64.false (c.in_ok-place.place + 1) c.index-steps-place.result f.at f.switch;
+      explains = explains (g.S.Shelf.rules c.args.shelf.now) c.args.steps.now (c.in_ok-place.place + 1) c.switches.result c.reached.result c.reached.ensures c.switches.ensures c.args.switch _ c.index-steps-place.result
+          (trail_because (g.S.Shelf.rules c.args.shelf.now) c.args.steps.now (g.met.S.Shelf.lawful c.args.shelf.now) c.requires.trail) f.at f.switch (ap (λ (y : Step). y.rule) c.index-steps-place.is);
+    }
