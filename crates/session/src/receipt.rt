@@ -34,13 +34,6 @@ pub enum Outcome {
 }
 
 impl Receipt {
-    // The rule that is broken, and the level.
-    pub fn clash(&self) -> Clash
-        ensures { result ≡ self.now.clash }
-    {
-        self.clash
-    }
-
     // The rule that is broken.
     pub fn rule(&self) -> usize
         ensures { result ≡ self.now.clash.rule }

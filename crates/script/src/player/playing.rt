@@ -6,7 +6,7 @@ ghost use Rattle.session.specs.Sessions.{seen};
 
 use crate::request::Request;
 use literals::Refusal;
-use runs::{Answer, Reply};
+use runs::{Answer, Clash, Reply};
 use session::{Outcome, Receipt, Returned, Session};
 use shelf::Shelf;
 
@@ -57,7 +57,11 @@ fn after_settle(outcome: Result<Outcome, Refusal>) -> (Option<Receipt>, Option<A
     match outcome {
         Ok(Outcome::Quiet(grown)) => (None, Some(Ok(Reply::Grown(grown)))),
         Ok(Outcome::Clash(receipt)) => {
-            let reply = Reply::Clash(receipt.clash(), receipt.letter());
+            let clash = Clash {
+                rule: receipt.rule(),
+                level: receipt.level(),
+            };
+            let reply = Reply::Clash(clash, receipt.letter());
             (Some(receipt), Some(Ok(reply)))
         }
         Err(refusal) => (None, Some(Err(refusal))),
