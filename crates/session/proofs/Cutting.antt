@@ -1,7 +1,7 @@
 -- What dropping the steps above a level leans on.
-use Rattle.std.proofs.Common.{◌≡◌, ℕ, zero, suc, ◌-◌, ◌<◌, ◌≤◌, Bool, true, false, cond, leb, List, [], ◌∷◌, ◌++◌, length, get_or, take, refl, sym, ap, ◌∙◌, subst, arith}
+use Rattle.std.proofs.Common.{◌≡◌, ℕ, zero, suc, ◌+◌, ◌-◌, ◌<◌, ◌≤◌, Bool, true, false, cond, leb, List, [], ◌∷◌, ◌++◌, length, get_or, take, refl, sym, ap, ◌∙◌, subst, arith}
 use Rattle.std.proofs.lemmas.Bool.Decides.{nat_tests}
-use Rattle.std.proofs.lemmas.List.{take-map}
+use Rattle.std.proofs.lemmas.List.{take_more, take-map}
 use Rattle.literals.specs.declared.setting.Setting.{Setting}
 use Rattle.literals.specs.Settings.{minus}
 use Rattle.lists.specs.Lists.{distinct}
@@ -10,6 +10,7 @@ use Rattle.rules.proofs.Numbers.{numbered_at, numbered_low}
 use Rattle.told.proofs.Telling.{taken_out}
 use Rattle.runs.specs.declared.step.Step.{Step}
 use Rattle.runs.specs.Views.{literals_on, standing, up_to}
+use Rattle.runs.proofs.Levels.{above}
 use Rattle.runs.proofs.Trails.{literals-push}
 use Rattle.session.specs.Logs.{Front}
 
@@ -41,3 +42,27 @@ step_out t u x s s' e d p q = taken_out (literals_on t) (literals_on u) x.litera
 pub cut_once : (t u : List Step) (n : ℕ) → u ≡ take n t → distinct (literals_on t) ≡ true → distinct (literals_on u) ≡ true
 cut_once t u n e d =
     ap (λ (x : List Step). distinct (literals_on x)) e ∙ ap distinct (sym (take-map (λ (x : Step). x.literal) n t)) ∙ distinct-take n (literals_on t) d
+
+-- ---- a front that is looked for from the back, place by place
+
+module _ (k : ℕ) (t : List Step) (n : ℕ) where
+  -- the last of the first n
+  pub last_step : (x : Step) → 0 < n → n ≤ length t → x ≡ get_or t (n - 1) x → take n t ≡ take (n - 1) t ++ x ∷ []
+  last_step x p q is =
+      let z : n - 1 + 1 ≡ n = omega arith in
+      ap (λ (i : ℕ). take i t) (sym z) ∙ take_more t (n - 1) x (omega arith) ∙ ap (λ (y : Step). take (n - 1) t ++ y ∷ []) (sym is)
+
+  pub front_less : (x : Step) → 0 < n → n ≤ length t → x ≡ get_or t (n - 1) x → k < (get_or t (n - 1) x).level → up_to k (take n t) ≡ up_to k t → up_to k (take (n - 1) t) ≡ up_to k t
+  front_less x p q is high e = sym (above k (take (n - 1) t) x (subst (λ (y : Step). k < y.level) (sym is) high)) ∙ ap (up_to k) (sym (last_step x p q is)) ∙ e
+
+  pub front_none : n ≡ 0 → n ≤ length t → up_to k (take n t) ≡ up_to k t → Front k t n
+  front_none z q e = record { few = q; all = e; last = λ x m. let low = numbered_low m in absurd (omega arith) }
+
+  pub front_here : (x : Step) → n ≤ length t → x ≡ get_or t (n - 1) x → (get_or t (n - 1) x).level ≤ k → up_to k (take n t) ≡ up_to k t → Front k t n
+  front_here x q is low e =
+      record { few = q; all = e; last = λ y m. subst (λ (z : Step). z.level ≤ k) (numbered_at m x) low }
+
+-- one literal taken out of the set of the first n steps
+pub set_less : (t : List Step) (n : ℕ) (x : Step) (s s' : Setting) → distinct (literals_on t) ≡ true → 0 < n → n ≤ length t → x ≡ get_or t (n - 1) x
+    → s ≡ standing (take n t) → s' ≡ minus s x.literal → s' ≡ standing (take (n - 1) t)
+set_less t n x s s' d p q is e f = (step_out (take n t) (take (n - 1) t) x s s' (last_step 0 t n x p q is) (cut_once t (take n t) n refl d) e f).1
