@@ -1,2 +1,3 @@
+pub mod Hands
 pub mod Likeness
 pub mod Playing

@@ -1,4 +1,5 @@
 use Rattle.std.proofs.Common.{sym, ◌∙◌}
+use Rattle.runs.proofs.Whole.{laws}
 use Rattle.session.specs.Sessions.{seen}
 use Rattle.script.proofs.Likeness.{alike_by, reached_agree}
 use Rattle.script.proofs.comparing.alike.Goals as goal
@@ -14,10 +15,10 @@ pub returns-then-level-clause-agree : goal.returns-then-level-clause-agree
 returns-then-level-clause-agree g c =
     let x = c.args.first.now in
     let y = c.args.second.now in
-    reached_agree _ _ (seen x) (seen y) (g.met.A.Shelf.lawful x.tied.shelf) (g.met.B.Shelf.lawful y.tied.shelf) x.reached y.reached
+    reached_agree _ _ (seen x) (seen y) (laws _ (g.met.A.Shelf.lawful x.tied.shelf)) (laws _ (g.met.B.Shelf.lawful y.tied.shelf)) (g.met.B.Shelf.lawful y.tied.shelf) x.reached y.reached
 
 pub returns-else-level-clause-agree : goal.returns-else-level-clause-agree
 returns-else-level-clause-agree g c =
     let x = c.args.first.now in
     let y = c.args.second.now in
-    reached_agree _ _ (seen x) (seen y) (g.met.A.Shelf.lawful x.tied.shelf) (g.met.B.Shelf.lawful y.tied.shelf) x.reached y.reached
+    reached_agree _ _ (seen x) (seen y) (laws _ (g.met.A.Shelf.lawful x.tied.shelf)) (laws _ (g.met.B.Shelf.lawful y.tied.shelf)) (g.met.B.Shelf.lawful y.tied.shelf) x.reached y.reached
