@@ -13,7 +13,7 @@ fn is_among(columns: &[Column], column: Column) -> bool
     columns.contains(&column)
 }
 
-// No column comes twice.
+// No column comes twice: each is looked for among those before it.
 fn all_differ(columns: &[Column]) -> bool
     ensures { Decides result (Apart columns.now) }
 {

@@ -25,6 +25,7 @@ pub fn read_line<'a>(reader: &mut Reader<'a>) -> Option<Line<'a>>
 {
     let mut ahead = reader.ahead();
     let mut fields = [Field::default(); FIELDS];
+    // By place: an array of what borrows from the text is not filled through `iter_mut` yet.
     for (i, &close) in CLOSES.iter().enumerate() {
         fields[i] = ahead.field_before(close)?;
     }

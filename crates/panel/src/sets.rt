@@ -48,7 +48,7 @@ fn read_set(heap: Global, line: usize, text: &str) -> Result<Setting, Trouble> {
     collect(numbers.as_slice()).map_err(refused)
 }
 
-// The set of each line, or the first line that is refused.
+// The set of each line, or the first line that is refused, by its number.
 pub fn read_sets(heap: Global, text: &str) -> Result<Vec<Setting>, Trouble> {
     let mut sets = Vec::new(heap);
     for (i, line) in text.lines().enumerate() {

@@ -65,7 +65,7 @@ impl fmt::Display for Verdict {
     }
 }
 
-// The lowest-numbered rule that is broken or forces a literal.
+// The lowest-numbered rule that is broken or forces a literal. The index is part of the answer.
 #[tactic(auto, using(crate::proofs::Numbers::found))]
 pub fn scan<R: Rule>(records: &[R], set: &Setting) -> Verdict
     ensures { Scans R.breaks records.now set.now result }

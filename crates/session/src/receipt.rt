@@ -25,7 +25,7 @@ impl fmt::Display for Returned {
     }
 }
 
-// How a settle ended.
+// How a settle ended. A clash is no failure of the call, so this is no `Result`.
 #[derive(Debug, PartialEq, Eq)]
 pub enum Outcome {
     // Settled: by how many literals the trail grew.

@@ -28,7 +28,7 @@ impl<'a> Reader<'a> {
         Reader { text, at: 0 }
     }
 
-    // Another reader, at the same place of the same text.
+    // Another reader, at the same place of the same text: a copy, by a name that says what it is for.
     pub fn ahead(&self) -> Reader<'a>
         ensures text { result.text.now ≡ self.now.text.now }
         ensures at { result.at ≡ self.now.at }

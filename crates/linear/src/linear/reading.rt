@@ -42,7 +42,7 @@ impl Linear {
             .fold(None, |best, t| t.improve(set, number, best))
     }
 
-    // What the literal weighs in the rule, 0 where the rule has it not.
+    // What the literal weighs in the rule, 0 where the rule has it not: it is compared with a slack as a number.
     pub fn weight(&self, l: Literal) -> u16
         ensures { result ≡ weight_of (terms_of self.now) l }
     {

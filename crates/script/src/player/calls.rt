@@ -47,6 +47,7 @@ impl<S: Shelf> Player<S> {
     {
         let Player { mut session, held } = self;
         if let Some(receipt) = held {
+            // Not by `let .. else`, which would let go of what a refusal gives back.
             match session.close(receipt) {
                 Ok(()) => (),
                 Err(_) => unreachable(),

@@ -24,6 +24,7 @@ pub(crate) fn call<S: Shelf>(
     match request {
         Request::Settle => match held {
             None => after_settle(session.settle()),
+            // While a receipt is held a clash stands, and a settle is refused.
             Some(receipt) => match session.settle() {
                 Ok(_) => unreachable(),
                 Err(refusal) => (Some(receipt), Some(Err(refusal))),

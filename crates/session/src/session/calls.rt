@@ -118,6 +118,7 @@ impl<S: Shelf> Session<S> {
     fn spend(&self, call: Call, receipt: Receipt) -> Result<(), Returned>
         ensures { MatchResult result (λ _. None ≡ first_failed (checks (seen self.now) call)) (λ e. (Some e.refusal ≡ first_failed (checks (seen self.now) call)) × (e.receipt ≡ receipt)) }
     {
+        // Not by `map_err`: its closure would take the receipt that is spent below.
         if let Err(refusal) = self.tied.log.admit(call) {
             return Err(Returned { refusal, receipt });
         }
