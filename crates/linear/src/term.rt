@@ -38,10 +38,7 @@ impl Term {
     ) -> Option<Literal>
         ensures { result ≡ improved (passes number set.now) best self.now }
     {
-        let lower = match best {
-            None => true,
-            Some(l) => self.literal.switch() < l.switch(),
-        };
+        let lower = best.is_none_or(|l| self.literal.switch() < l.switch());
         if i64::from(self.weight) > number && set.is_free(self.literal) && lower {
             Some(self.literal)
         } else {

@@ -82,10 +82,8 @@ impl<A: Shelf, B: Shelf> Shelf for Pair<A, B> {
     }
 
     fn rule_count(&self) -> usize {
-        match self.split {
-            Some(split) => split + self.second.rule_count(),
-            None => 1,
-        }
+        self.split
+            .map_or(1, |split| split + self.second.rule_count())
     }
 
     fn told_count(&self) -> usize {

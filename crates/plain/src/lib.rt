@@ -1,7 +1,7 @@
 #![tactic(auto)]
 
 // The plain shelf, letter p: the caller's records of any kind of rule, scanned at every question.
-ghost use Rattle.std.specs.Prelude.{◌≡◌, []};
+ghost use Rattle.std.specs.Prelude.{◌≡◌, [], length, nat_lt};
 ghost use Rattle.plain.specs.Plains.{plain_rules};
 ghost use Rattle.plain.specs.Laws.{plain_few, plain_lawful};
 ghost use Rattle.told.specs.Laws.{told_distinct};
@@ -29,6 +29,13 @@ impl<'a, R: Rule> Plain<'a, R> {
             told: Told::new(),
         }
     }
+
+    // There are more records than a shelf may have rules.
+    fn is_over(&self) -> bool
+        ensures { result ≡ nat_lt 1024 (length self.now.records.now) }
+    {
+        self.records.len() > MOST_RULES
+    }
 }
 
 impl<'a, R: Rule> Shelf for Plain<'a, R> {
@@ -55,14 +62,14 @@ impl<'a, R: Rule> Shelf for Plain<'a, R> {
     }
 
     fn ask(&self) -> Verdict {
-        if self.records.len() > MOST_RULES {
+        if self.is_over() {
             return Verdict::Broken(1);
         }
         scan(self.records, self.told.set())
     }
 
     fn rule_count(&self) -> usize {
-        if self.records.len() > MOST_RULES {
+        if self.is_over() {
             1
         } else {
             self.records.len()
@@ -75,7 +82,7 @@ impl<'a, R: Rule> Shelf for Plain<'a, R> {
 
     fn mentions(&self, rule: usize, switch: u8) -> Result<bool, Refusal> {
         self.check_mention(rule, switch)?;
-        if self.records.len() > MOST_RULES {
+        if self.is_over() {
             return Ok(false);
         }
         Ok(self.records[rule - 1].mentions_switch(switch))

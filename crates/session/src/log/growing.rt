@@ -16,10 +16,10 @@ fn front(steps: &[Step], k: u8) -> usize
     ensures above { (i : ℕ) (x : Step) → result ≤ i → i < length steps.now → k < (slice_index_or steps.now i x).level }
     ensures last { (x : Step) → 0 < result → (slice_index_or steps.now (result - 1) x).level ≤ k }
 {
-    match steps.iter().rposition(|step| step.level <= k) {
-        Some(last) => last + 1,
-        None => 0,
-    }
+    steps
+        .iter()
+        .rposition(|step| step.level <= k)
+        .map_or(0, |last| last + 1)
 }
 
 impl Log {
