@@ -1,5 +1,5 @@
 -- What is told of a standing switch, and of a free one.
-use Rattle.std.proofs.Common.{◌≡◌, ℕ, ◌-◌, ◌≤◌, Bool, true, false, cond, not, ◌&&◌, ◌⊎◌, List, Some, None, Option, Decides, sym, refl, ap, ◌∙◌, subst, inl, inr, ⊎_elim, arith}
+use Rattle.std.proofs.Common.{◌≡◌, ℕ, ◌+◌, ◌-◌, ◌<◌, ◌≤◌, Bool, true, false, cond, not, ◌&&◌, ◌||◌, ltb, ◌⊎◌, List, length, get_or, Some, None, Option, Decides, sym, refl, ap, ◌∙◌, subst, inl, inr, ⊎_elim, arith}
 use Rattle.std.proofs.lemmas.Bool.{le-ltb, or_from}
 use Rattle.std.proofs.Props.{props}
 use Rattle.std.proofs.Math.Logic.{∥∥₁_elim}
@@ -14,7 +14,7 @@ use Rattle.literals.proofs.Freedom.{free_is}
 use Rattle.lists.specs.Lists.{distinct, mentioned}
 use Rattle.lists.proofs.Sets.{set_free}
 use Rattle.rules.specs.Scans.{Numbered}
-use Rattle.rules.proofs.Numbers.{numbered_low}
+use Rattle.rules.proofs.Numbers.{numbered_low, numbered_high, numbered_at}
 use Rattle.shelf.specs.Meanings.{Meaning, Lawful, Every}
 use Rattle.runs.specs.declared.step.Step.{Step}
 use Rattle.runs.specs.Views.{literals_on, standing}
@@ -38,7 +38,10 @@ trail_because rules t lawful some = ∥∥₁_elim some (hlevel props) (λ h. su
 
 module _ (t : List Step) (n : ℕ) (low : 1 ≤ n) (high : n ≤ 64) where
   switch : no_switch n ≡ false
-  switch = or_from _ _ (le-ltb n 1 low) (le-ltb 64 n high)
+  switch = neither (ltb n 1) (ltb 64 n) (le-ltb n 1 low) (le-ltb 64 n high)
+    where
+      neither : (a b : Bool) → a ≡ false → b ≡ false → (a || b) ≡ false
+      neither a b p q = or_from a b p q
 
   -- a literal of the switch
   abbrev on_literal : Literal
@@ -108,3 +111,12 @@ module _ (rules : List Meaning) (t : List Step) (place word : ℕ) (chosen : Set
             (λ j y m reach z. holds j y m z ((exactly y.literal.switch y.literal.range.0 y.literal.range.1).1
             (record { place = j; step = y; at = m; reached = reach; chosen = z; switch = refl })));
       }
+
+-- ---- the place found, told from its parts
+
+-- the place found is one of the trail
+pub place_within : (t : List Step) (i n : ℕ) → ((x : Step) × Numbered t (i + 1) x × (x.literal.switch ≡ n)) → i < length t
+place_within t i n h = let high = numbered_high h.1 in omega arith
+
+pub place_step : (t : List Step) (i : ℕ) (x d : Step) → Numbered t (i + 1) x → x ≡ get_or t i d
+place_step t i x d at = let e : (i + 1) - 1 ≡ i = omega arith in sym (numbered_at at d) ∙ ap (λ (k : ℕ). get_or t k d) e

@@ -1,5 +1,5 @@
 -- What every list of calls keeps of a session.
-use Rattle.std.proofs.Common.{◌≡◌, ℕ, ◌+◌, ◌<◌, Bool, true, false, cond, not, List, [], ◌∷◌, ◌++◌, length, take, ℤ, None, is_none, sym, refl, ap, ◌∙◌, subst, ap₂, arith}
+use Rattle.std.proofs.Common.{◌≡◌, ℕ, ◌+◌, ◌<◌, Bool, true, false, cond, not, List, [], ◌∷◌, ◌++◌, length, take, ℤ, None, Ok, is_none, sym, refl, ap, ◌∙◌, subst, ap₂, ◌⊎◌, ⊎_elim, arith}
 use Rattle.std.proofs.lemmas.List.{append-nil, map_push, length_push, length-take-le, take-map}
 use Rattle.std.proofs.lemmas.Bool.{leb-false, and_from}
 use Rattle.literals.specs.declared.literal.Literal.{Literal}
@@ -18,10 +18,12 @@ use Rattle.runs.specs.declared.calls.State.TheVariants.{Unsettled, Settled, Clas
 use Rattle.runs.specs.declared.calls.Clash.{Clash}
 use Rattle.runs.specs.declared.calls.Call.{Call}
 use Rattle.runs.specs.declared.calls.Call.TheVariants.{Settle, Choose, Back, BackFromClash, Close}
+use Rattle.runs.specs.declared.calls.Reply.TheVariants.{Done}
 use Rattle.runs.specs.Views.{View, opened, standing, step}
 use Rattle.runs.specs.Calls.{Answered, checks, is_shut, is_clashed, is_unsettled, state_by, Said, SettledBy, Chose, WentBack, Closed, Did, Does, refused, done}
 use Rattle.runs.specs.Runs.{Event, event, Run, none, then, chosen_after, chosen_from, chosen_by}
 use Rattle.runs.specs.Laws.{chosen_in}
+use Rattle.runs.proofs.Verdicts.{true_false}
 use Rattle.runs.proofs.Trails.{Trail, empty, chose, locked, numbers}
 use Rattle.runs.proofs.Levels.{back_to, settle_trail}
 
@@ -33,6 +35,21 @@ pub record Kept (rules : List Meaning) (c : List ℤ) (v : View) : Type 0 where
   pub level : v.level ≡ length chosen
   pub quiet : v.state ≡ Settled → Answers rules (standing v.trail) Quiet
   pub broken : (r : ℕ) → v.state ≡ Clashed r → Answers rules (standing v.trail) (Broken r)
+
+-- ---- states are told apart
+
+settled_not_clashed : {A : Type 0} (s : State) (r : ℕ) → s ≡ Settled → s ≡ Clashed r → A
+settled_not_clashed s r p q = absurd cc
+
+-- an unsettled or shut session is neither settled nor clashed
+neither : {A : Type 0} (s : State) → (is_unsettled s ≡ true) ⊎ (is_shut s ≡ true) → s ≡ Settled → A
+neither s h e = ⊎_elim (λ p. true_false p (ap is_unsettled e)) (λ p. true_false p (ap is_shut e)) h
+
+nor : {A : Type 0} (s : State) (r : ℕ) → (is_unsettled s ≡ true) ⊎ (is_shut s ≡ true) → s ≡ Clashed r → A
+nor s r h e = ⊎_elim (λ p. true_false p (ap is_unsettled e)) (λ p. true_false p (ap is_shut e)) h
+
+clashed_rule : (s : State) (q r : ℕ) → s ≡ Clashed q → s ≡ Clashed r → q ≡ r
+clashed_rule s q r a b = cc
 
 -- ---- what the checks say of a call that is done
 
@@ -130,6 +147,9 @@ module _ (rules : List Meaning) where
   settle_chosen c v w a Quiet said = ap (λ (x : Answered). chosen_after c (event Settle x)) said.2
   settle_chosen c v w a (Broken r) said = ap (λ (x : Answered). chosen_after c (event Settle x)) said.is
   settle_chosen c v w a (Forced r l) said = absurd said
+
+  done_chosen : (c : List ℤ) (call : Call) (a : Answered) → a ≡ Ok Done → chosen_after c (event call a) ≡ chosen_after c (event call (Ok Done))
+  done_chosen c call a e = ap (λ (x : Answered). chosen_after c (event call x)) e
 
   did_keeps : (c : List ℤ) (v w : View) (call : Call) (a : Answered) → Kept rules c v → None ≡ first_failed (checks v call) → Did rules v call a w → Kept rules (chosen_after c (event call a)) w
   did_keeps c v w Settle a i p d = rw (settle_chosen c v w a d.verdict d.said) (settle_keeps c v w a i d)

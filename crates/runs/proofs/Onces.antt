@@ -26,6 +26,16 @@ use Rattle.runs.specs.Laws.{One}
 use Rattle.runs.proofs.Verdicts.{answers_one, answers_some}
 use Rattle.runs.proofs.Trails.{standing-push}
 
+-- ---- verdicts are told apart
+
+-- what is forced is neither quiet nor broken
+not_forced : {A : Type 0} (r : ℕ) (l : Literal) (v : Verdict) → v ≡ Forced r l → (v ≡ Quiet → A) × ((q : ℕ) → v ≡ Broken q → A)
+not_forced r l v e = ((λ f. absurd cc), (λ q f. absurd cc))
+
+-- it is forced by one rule, and is one literal
+forced_parts : (q r : ℕ) (k l : Literal) → Forced q k ≡ Forced r l → (q ≡ r) × (k ≡ l)
+forced_parts q r k l e = (cc, cc)
+
 -- ---- settling ends in one way
 
 module _ (rules : List Meaning) (level : ℕ) where

@@ -14,6 +14,11 @@ use Rattle.rules.proofs.Numbers.{numbered_one, numbered_low}
 use Rattle.shelf.specs.Meanings.{Meaning, Answers}
 use Rattle.shelf.proofs.Lists.{after, answers_second}
 
+-- ---- a test is not both
+
+pub true_false : {A : Type 0} {b : Bool} → b ≡ true → b ≡ false → A
+true_false p q = absurd cc
+
 -- ---- at most one
 
 -- of two literals one comes before the other, or they are one
