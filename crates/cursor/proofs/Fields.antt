@@ -6,10 +6,17 @@ use Rattle.cursor.specs.declared.close.Close.{Close}
 use Rattle.cursor.specs.declared.close.Close.TheVariants.{Space, Break}
 use Rattle.cursor.specs.Fields.{Plain, AllPlain, FieldAt, NoFieldAt, FieldEnd, past, byte_of}
 
--- what ends a field is not plain
+-- ---- what ends a field is not plain
+
+pub space : Plain 32 → ⊥
+space p = p.0 refl
+
+pub break : Plain 10 → ⊥
+break p = p.1 refl
+
 pub not_plain : (c : Close) → Plain (byte_of c) → ⊥
-not_plain Space p = p.0 refl
-not_plain Break p = p.1 refl
+not_plain Space = space
+not_plain Break = break
 
 module _ {t f : List ℕ} {p x : ℕ} (b : FieldAt t p f x) where
   pub field_within : p + length f < length t

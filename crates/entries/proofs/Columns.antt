@@ -19,6 +19,39 @@ pub one_more : (cs : List Column) (n : ℕ) (x : Column) → n < length cs → (
 one_more cs n x l new i d h e =
     new (i, omega (arith, length-take-le n cs (omega arith)), get_or-take n cs i _ h ∙ (get_or_default cs i _ d (omega arith) ∙ (e ∙ get_or_default cs n d x l)))
 
+-- ---- no column comes twice, said of each two of the five
+
+module _ (a b c d e : Column) (p : Apart (a ∷ b ∷ c ∷ d ∷ e ∷ [])) where
+  pub first_second : a ≢ b
+  first_second = p 0 1 a (omega arith) (omega arith)
+
+  pub first_third : a ≢ c
+  first_third = p 0 2 a (omega arith) (omega arith)
+
+  pub first_fourth : a ≢ d
+  first_fourth = p 0 3 a (omega arith) (omega arith)
+
+  pub first_fifth : a ≢ e
+  first_fifth = p 0 4 a (omega arith) (omega arith)
+
+  pub second_third : b ≢ c
+  second_third = p 1 2 a (omega arith) (omega arith)
+
+  pub second_fourth : b ≢ d
+  second_fourth = p 1 3 a (omega arith) (omega arith)
+
+  pub second_fifth : b ≢ e
+  second_fifth = p 1 4 a (omega arith) (omega arith)
+
+  pub third_fourth : c ≢ d
+  third_fourth = p 2 3 a (omega arith) (omega arith)
+
+  pub third_fifth : c ≢ e
+  third_fifth = p 2 4 a (omega arith) (omega arith)
+
+  pub fourth_fifth : d ≢ e
+  fourth_fifth = p 3 4 a (omega arith) (omega arith)
+
 -- ---- one name to a column
 
 pub head_of : {a b : ℕ} {xs ys : List ℕ} → a ∷ xs ≡ b ∷ ys → a ≡ b

@@ -10,7 +10,13 @@ use Rattle.entries.specs.declared.column.Column.{Column}
 use Rattle.entries.specs.declared.column.Column.TheVariants.{Rule, Kind, Bound, Weight, Switch}
 use Rattle.entries.specs.declared.entry.Entry.{Entry}
 use Rattle.entries.specs.Columns.{Apart}
-use Rattle.entries.specs.Entries.{Holds, Keeps, Bad, FirstBadOf, bad, later, wrong}
+use Rattle.entries.specs.Entries.{Holds, Keeps, Good, Bad, FirstBadOf, bad, later, wrong}
+
+-- a list of one element
+pub single : (xs : List ℕ) (b : ℕ) → length xs ≡ 1 → get_or xs 0 0 ≡ b → xs ≡ b ∷ []
+single [] b l e = absurd (omega arith)
+single (x ∷ []) b l e = ap (λ y. y ∷ []) e
+single (x ∷ y ∷ ys) b l e = absurd (omega arith)
 
 -- what the other columns hold stays
 kept : (c d : Column) (f : List ℕ) (e n : Entry) → c ≢ d → Keeps d e n → Holds c f e → Holds c f n
@@ -79,6 +85,43 @@ module _ (cs : List Column) (fs : List Field) (i : ℕ) (c : Column) (f : Field)
       rw (er, ep) (subst (λ x. FirstBadOf x (words fs) (starts fs) (wrong c) f.place) ec
       (subst (λ x. FirstBadOf (take i cs ++ c ∷ drop (i + 1) cs) (words x) (starts x) (wrong c) f.place) ef
       (first_bad (take i cs) (drop (i + 1) cs) (take i fs) (drop (i + 1) fs) c f e read b)))
+
+-- ---- a field that was refused, after those that were read, said of each of the five
+
+module _ (c1 c2 c3 c4 c5 : Column) (f1 f2 f3 f4 f5 : List ℕ) (q1 q2 q3 q4 q5 : ℕ) where
+  abbrev First : Refusal → ℕ → Type 0
+  First n p = FirstBadOf (c1 ∷ c2 ∷ c3 ∷ c4 ∷ c5 ∷ []) (f1 ∷ f2 ∷ f3 ∷ f4 ∷ f5 ∷ []) (q1 ∷ q2 ∷ q3 ∷ q4 ∷ q5 ∷ []) n p
+
+  pub bad_first : Bad c1 f1 → First (wrong c1) q1
+  bad_first b = bad b
+
+  pub bad_second : Good c1 f1 → Bad c2 f2 → First (wrong c2) q2
+  bad_second h1 b = later h1 (bad b)
+
+  pub bad_third : Good c1 f1 → Good c2 f2 → Bad c3 f3 → First (wrong c3) q3
+  bad_third h1 h2 b = later h1 (later h2 (bad b))
+
+  pub bad_fourth : Good c1 f1 → Good c2 f2 → Good c3 f3 → Bad c4 f4 → First (wrong c4) q4
+  bad_fourth h1 h2 h3 b = later h1 (later h2 (later h3 (bad b)))
+
+  pub bad_fifth : Good c1 f1 → Good c2 f2 → Good c3 f3 → Good c4 f4 → Bad c5 f5 → First (wrong c5) q5
+  bad_fifth h1 h2 h3 h4 b = later h1 (later h2 (later h3 (later h4 (bad b))))
+
+  module _ (n : Refusal) (p : ℕ) where
+    pub refused_first : Bad c1 f1 → n ≡ wrong c1 → p ≡ q1 → First n p
+    refused_first b e f = rw (e, f) (bad_first b)
+
+    pub refused_second : Good c1 f1 → Bad c2 f2 → n ≡ wrong c2 → p ≡ q2 → First n p
+    refused_second h1 b e f = rw (e, f) (bad_second h1 b)
+
+    pub refused_third : Good c1 f1 → Good c2 f2 → Bad c3 f3 → n ≡ wrong c3 → p ≡ q3 → First n p
+    refused_third h1 h2 b e f = rw (e, f) (bad_third h1 h2 b)
+
+    pub refused_fourth : Good c1 f1 → Good c2 f2 → Good c3 f3 → Bad c4 f4 → n ≡ wrong c4 → p ≡ q4 → First n p
+    refused_fourth h1 h2 h3 b e f = rw (e, f) (bad_fourth h1 h2 h3 b)
+
+    pub refused_fifth : Good c1 f1 → Good c2 f2 → Good c3 f3 → Good c4 f4 → Bad c5 f5 → n ≡ wrong c5 → p ≡ q5 → First n p
+    refused_fifth h1 h2 h3 h4 b e f = rw (e, f) (bad_fifth h1 h2 h3 h4 b)
 
 -- ---- the whole line
 

@@ -1,5 +1,5 @@
 -- One kind to a letter, one order to a names line, one entry to a line.
-use Rattle.std.proofs.Common.{◌≡◌, ◌≢◌, ℕ, zero, suc, ◌<◌, Bool, true, false, cond, eqb, Decides, List, [], ◌∷◌, length, get_or, ℤ, sym, refl, ap, ◌∙◌, subst, arith}
+use Rattle.std.proofs.Common.{◌≡◌, ◌≢◌, ℕ, zero, suc, ◌+◌, ◌<◌, ◌⊎◌, Bool, true, false, cond, eqb, Decides, List, [], ◌∷◌, length, get_or, ℤ, sym, refl, ap, ◌∙◌, subst, inl, inr, arith}
 use Rattle.std.specs.Cmp.{IsEquivalence}
 use Rattle.std.specs.List.{AllZip, Contains}
 use Rattle.std.specs.Set.{is_member}
@@ -154,3 +154,11 @@ module _ (o : Order) (w : List (List ℕ)) (x y : Entry) (a : Says o w x) (b : S
       let whole : entry x.rule x.kind x.bound x.weight x.switch ≡ entry y.rule y.kind y.bound y.weight y.switch =
       cc (at_column Rule, at_column Kind, at_column Bound, at_column Weight, at_column Switch) in
       whole
+
+-- ---- numbers from which one, k, is left out, so that those above it move down
+
+squash_one : (k x y u v : ℕ) → (((x < k) × (u ≡ x)) ⊎ ((k < x) × (x ≡ u + 1))) → (((y < k) × (v ≡ y)) ⊎ ((k < y) × (y ≡ v + 1))) → u ≡ v → x ≡ y
+squash_one k x y u v p q e = elim p [
+  | inl a ↦ elim q [ inl b ↦ omega (arith, a.1, b.1) | inr b ↦ omega (arith, a.0, a.1, b.0, b.1) ]
+  | inr a ↦ elim q [ inl b ↦ omega (arith, a.0, a.1, b.0, b.1) | inr b ↦ omega (arith, a.1, b.1) ]
+]

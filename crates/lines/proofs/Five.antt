@@ -1,7 +1,8 @@
 -- A line field by field: what stands of fields one behind the other, written out for each of the five.
-use Rattle.std.proofs.Common.{◌≡◌, ℕ, List, [], ◌∷◌, sym, subst, arith}
+use Rattle.std.proofs.Common.{◌≡◌, ℕ, List, [], ◌∷◌, sym, ap, subst, arith}
 use Rattle.cursor.specs.declared.close.Close.TheVariants.{Space, Break}
 use Rattle.cursor.specs.Fields.{FieldAt, NoFieldAt, past}
+use Rattle.cursor.proofs.Fields.{same_field, space, break}
 use Rattle.lines.specs.Lines.{LineAt, NoLineAt, after, places}
 use Rattle.lines.proofs.Lines.{no_fields}
 
@@ -45,19 +46,55 @@ module _ (t : List ℕ) (p : ℕ) where
               no_fields t p (Space ∷ Space ∷ Space ∷ Space ∷ []) (a ∷ b ∷ c ∷ d ∷ []) Break [] w (b1, (moved e2 b2, (moved at3 b3, (moved at4 b4, tt)))) (missing at5 n) l.fields
 
           module _ (e : List ℕ) (q6 : ℕ) (e6 : q6 ≡ past q5 e) where
-            abbrev five : List (List ℕ)
-            five = a ∷ b ∷ c ∷ d ∷ e ∷ []
+            abbrev read : List (List ℕ)
+            read = a ∷ b ∷ c ∷ d ∷ e ∷ []
 
-            pub line_ends : q6 ≡ after p five
+            pub line_ends : q6 ≡ after p read
             line_ends = omega arith
 
-            pub line_places : p ∷ q2 ∷ q3 ∷ q4 ∷ q5 ∷ [] ≡ places p five
+            pub line_places : p ∷ q2 ∷ q3 ∷ q4 ∷ q5 ∷ [] ≡ places p read
             line_places = cc (e2, at3, at4, at5)
 
-            pub whole_line : FieldAt t q5 e 10 → LineAt t p five
+            pub whole_line : FieldAt t q5 e 10 → LineAt t p read
             whole_line b5 = record { fields = (b1, (moved e2 b2, (moved at3 b3, (moved at4 b4, (moved at5 b5, tt))))) }
 
+-- ---- one line stands at a place: the fields are the same one after the other, and begin at the same places
+
+same_five : (a b c d e a' b' c' d' e' : List ℕ) → a ≡ a' → b ≡ b' → c ≡ c' → d ≡ d' → e ≡ e' → a ∷ b ∷ c ∷ d ∷ e ∷ [] ≡ a' ∷ b' ∷ c' ∷ d' ∷ e' ∷ []
+same_five a b c d e a' b' c' d' e' e1 e2 e3 e4 e5 = cc (e1, e2, e3, e4, e5)
+
+module _ {t : List ℕ} {p : ℕ} {a b c d e a' b' c' d' e' : List ℕ} (w : LineAt t p (a ∷ b ∷ c ∷ d ∷ e ∷ [])) (v : LineAt t p (a' ∷ b' ∷ c' ∷ d' ∷ e' ∷ [])) where
+  one : a ≡ a'
+  one = same_field space w.fields.0 v.fields.0
+
+  two_at : past p a' ≡ past p a
+  two_at = ap (past p) (sym one)
+
+  two : b ≡ b'
+  two = same_field space w.fields.1.0 (moved two_at v.fields.1.0)
+
+  three_at : past (past p a') b' ≡ past (past p a) b
+  three_at = cc (two_at, two)
+
+  three : c ≡ c'
+  three = same_field space w.fields.1.1.0 (moved three_at v.fields.1.1.0)
+
+  four_at : past (past (past p a') b') c' ≡ past (past (past p a) b) c
+  four_at = cc (three_at, three)
+
+  four : d ≡ d'
+  four = same_field space w.fields.1.1.1.0 (moved four_at v.fields.1.1.1.0)
+
+  five_at : past (past (past (past p a') b') c') d' ≡ past (past (past (past p a) b) c) d
+  five_at = cc (four_at, four)
+
+  five : e ≡ e'
+  five = same_field break w.fields.1.1.1.1.0 (moved five_at v.fields.1.1.1.1.0)
+
 -- ---- the same of another text or place
+
+pub carried : {xs ys f : List ℕ} {p x : ℕ} → ys ≡ xs → FieldAt ys p f x → FieldAt xs p f x
+carried {xs} {ys} {f} {p} {x} e b = subst (λ (zs : List ℕ). FieldAt zs p f x) e b
 
 pub line_carried : {t s : List ℕ} {p : ℕ} {w : List (List ℕ)} → s ≡ t → LineAt s p w → LineAt t p w
 line_carried {t} {s} {p} {w} e a = subst (λ (x : List ℕ). LineAt x p w) e a

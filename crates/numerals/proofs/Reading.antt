@@ -1,12 +1,23 @@
 -- Reading digit by digit; a text writes one number at most.
-use Rattle.std.proofs.Common.{◌≡◌, ℕ, ◌-◌, ◌^◌, ◌<◌, ◌≤◌, List, [], ◌∷◌, length, get_or, take, drop, ℤ, pos, neg_ℤ, sym, refl, ap, ◌∙◌, subst, arith, lit≤}
-use native.Mathlib.Nat.{pow-le-pow_right}
+use Rattle.std.proofs.Common.{◌≡◌, ℕ, ◌+◌, ◌-◌, ◌*◌, ◌^◌, ◌<◌, ◌≤◌, List, [], ◌∷◌, length, get_or, take, drop, ℤ, pos, neg_ℤ, sym, refl, ap, ◌∙◌, subst, add-one, arith, lit≤}
+use native.Mathlib.Nat.{pow-le-pow_right, pow-succ'}
 use Rattle.std.proofs.lemmas.List.{take_rest}
 use Rattle.numerals.specs.Numerals.{Numeral, SignedNumeral, plain, minus}
 
 -- below nine digits a number has room for one more
 pub room : (n i : ℕ) → n < 10 ^ i → i ≤ 8 → n < 10 ^ 8
 room n i b h = let p : 10 ^ i ≤ 10 ^ 8 = pow-le-pow_right (lit≤ tt) h in omega arith
+
+-- ---- the same bound at nine digits, and with one digit more, said apart from the reading
+
+pub nine : (n i : ℕ) → n < 10 ^ i → i ≤ 9 → n < 10 ^ 9
+nine n i b h = let p : 10 ^ i ≤ 10 ^ 9 = pow-le-pow_right (lit≤ tt) h in omega arith
+
+-- one digit more
+pub grown : (n i d : ℕ) → n < 10 ^ i → d ≤ 9 → 10 * n + d < 10 ^ (i + 1)
+grown n i d b h = let p : 10 ^ (i + 1) ≡ 10 * 10 ^ i = rw (add-one, pow-succ') in omega arith
+
+-- ---- one number to a text
 
 pub one_number : (ds : List ℕ) (m n : ℕ) → Numeral ds m → Numeral ds n → m ≡ n
 one_number ds m n a b = a.value ∙ sym b.value

@@ -1,5 +1,5 @@
 -- What each call does to a session.
-use Rattle.std.proofs.Common.{◌≡◌, ℕ, ◌+◌, ◌-◌, ◌≤◌, true, cond, List, [], ◌∷◌, ◌++◌, length, take, ℤ, Some, None, Option, Ok, Err, Result, sym, refl, ap, ◌∙◌, subst, arith, MatchResult}
+use Rattle.std.proofs.Common.{◌≡◌, ℕ, ◌+◌, ◌-◌, ◌≤◌, true, cond, List, [], ◌∷◌, ◌++◌, length, take, ℤ, IfErr, Some, None, Option, Ok, Err, Result, sym, refl, ap, ◌∙◌, subst, arith, MatchResult}
 use Rattle.std.proofs.lemmas.List.{take-map, length-map, length_push}
 use Rattle.std.proofs.Math.Logic.{∥∥₁_elim, ∥∥₁_map}
 use Rattle.std.proofs.Props.{props}
@@ -13,6 +13,7 @@ use Rattle.literals.specs.Literals.{number, no_literal}
 use Rattle.literals.specs.Refusals.{first_failed, refusal_of}
 use Rattle.literals.specs.Settings.{free}
 use Rattle.literals.proofs.Refused.{failed_before}
+use Rattle.lists.specs.Lists.{distinct}
 use Rattle.lists.proofs.Sets.{count_free}
 use Rattle.rules.specs.declared.Verdict.{Verdict}
 use Rattle.rules.specs.declared.Verdict.TheVariants.{Quiet, Broken}
@@ -35,36 +36,48 @@ use Rattle.runs.proofs.Keeping.{run_keeps, choosable}
 use Rattle.runs.proofs.Levels.{front_up_to}
 use Rattle.runs.proofs.Onces.{settles_answer}
 use Rattle.runs.proofs.Sureness.{chosen_once}
+use Rattle.runs.proofs.Trails.{once}
 use Rattle.session.specs.declared.log.Log.{Log}
-use Rattle.session.specs.Logs.{view_of, Cut, Reached, Ran}
+use Rattle.session.specs.Logs.{view_of, Cut, Front, Reached, Ran}
 use Rattle.session.specs.declared.receipt.Outcome.{Outcome}
 use Rattle.session.specs.declared.receipt.Returned.{Returned}
 use Rattle.session.specs.Outcomes.{done, settled, spent}
 
 -- ---- refusals
 
+pub refused_by : (rules : List Meaning) (v : View) (c : Call) (e : Refusal) → Some e ≡ first_failed (checks v c) → Does rules v c (Err e) v
+refused_by rules v c e q = refused e (sym q) refl refl
+
 -- what a `?` gives back is the refusal of the call
 pub refused_done : (rules : List Meaning) (v : View) (c : Call) (r : Result (Unit {0}) Refusal) (e : Refusal) → IsErrAnd r (λ x. x ≡ e) → Some e ≡ first_failed (checks v c) → Does rules v c (done r) v
 refused_done rules v c (Ok _) e h q = absurd h
-refused_done rules v c (Err x) e h q = refused e (sym q) (ap Err h) refl
+refused_done rules v c (Err x) e h q = rw h (refused_by rules v c e q)
 
 pub refused_settle : (rules : List Meaning) (v : View) (r : Result Outcome Refusal) (e : Refusal) → IsErrAnd r (λ x. x ≡ e) → Some e ≡ first_failed (checks v Settle) → Does rules v Settle (settled r) v
 refused_settle rules v (Ok _) e h q = absurd h
-refused_settle rules v (Err x) e h q = refused e (sym q) (ap Err h) refl
+refused_settle rules v (Err x) e h q = rw h (refused_by rules v Settle e q)
 
 pub refused_spent : (rules : List Meaning) (v : View) (c : Call) (r : Result (Unit {0}) Returned) (e : Returned) → IsErrAnd r (λ x. x ≡ e) → Some e.refusal ≡ first_failed (checks v c) → Does rules v c (spent r) v
 refused_spent rules v c (Ok _) e h q = absurd h
-refused_spent rules v c (Err x) e h q = refused e.refusal (sym q) (ap (λ (y : Returned). Err y.refusal) h) refl
+refused_spent rules v c (Err x) e h q = rw h (refused_by rules v c e.refusal q)
+
+-- where the value is the same it is the same at a refusal
+pub same_then : {T E X : Type 0} (r : Result T E) (x y : X) → x ≡ y → IfErr r (λ _. x ≡ y)
+same_then (Ok _) x y p = tt
+same_then (Err _) x y p = p
 
 -- ---- some list of calls led to a view
 
 pub opened_reached : (rules : List Meaning) (v : View) → v ≡ opened → ∥ Reached rules v ∥₁
 opened_reached rules v e = ∣ record { events = []; run = subst (λ (x : View). Run rules opened [] x) (sym e) none } ∣₁
 
--- a shelf that was told nothing has the literals of a trail of none
-pub none_told : (E : Type 0) (r : Result (Unit {0}) Refusal) (ts us : List Literal) (v : View) → v ≡ opened → refusal_of r ≡ first_failed (back_checks ts 0) → MatchResult r (λ _. us ≡ take 0 ts) (λ _. E)
-    → us ≡ literals_on v.trail
-none_told E r ts us v o e h = took_back E r ts us 0 (omega arith) e h ∙ ap (λ (x : View). literals_on x.trail) (sym o)
+pub none_left : (E : Type 0) (r : Result (Unit {0}) Refusal) (ts us : List Literal) → refusal_of r ≡ first_failed (back_checks ts 0) → MatchResult r (λ _. us ≡ take 0 ts) (λ _. E) → us ≡ []
+none_left E r ts us e h = took_back E r ts us 0 (omega arith) e h
+
+-- a new log over a shelf that was told nothing: the literals are those of its trail, and no calls led here
+pub opened_tied : (rules : List Meaning) (ls : List Literal) (g : Log) → ls ≡ [] → view_of g ≡ opened → (ls ≡ literals_on (items_of g.trail)) × Reached rules (view_of g)
+opened_tied rules ls g e v =
+    (e ∙ ap (λ (x : View). literals_on x.trail) (sym v), record { events = []; run = subst (λ (x : View). Run rules opened [] x) (sym v) none })
 
 module _ (rules : List Meaning) (v : View) (some : ∥ Reached rules v ∥₁) where
   -- a level begins with a chosen literal, and no switch is chosen twice
@@ -72,6 +85,13 @@ module _ (rules : List Meaning) (v : View) (some : ∥ Reached rules v ∥₁) w
   level_small =
       ∥∥₁_elim some le_prop
       (λ r. let k = run_keeps rules r.run in let a = count_free k.chosen (chosen_once rules k.trail) in let b = k.level in omega arith)
+
+  pub each_once : distinct (literals_on v.trail) ≡ true
+  each_once = ∥∥₁_elim some (hlevel props) (λ r. once rules (run_keeps rules r.run).trail)
+
+  -- what is left at level k is the front that the log cuts to
+  pub cut_to : (k n : ℕ) → Front k v.trail n → take n v.trail ≡ up_to k v.trail
+  cut_to k n f = ∥∥₁_elim some (hlevel props) (λ r. front_up_to rules k n (run_keeps rules r.run).trail f.few f.all f.last)
 
   -- the view after a call
   pub next : (rules' : List Meaning) (w : View) (c : Call) (a : Answered) → Does rules v c a w → rules' ≡ rules → ∥ Reached rules' w ∥₁
@@ -99,9 +119,7 @@ viewed w s k t p q r =
 -- the log after going back: what is left at level k is the front that it cuts to
 pub dropped : (rules : List Meaning) (g h : Log) (k : ℕ) → ∥ Reached rules (view_of g) ∥₁ → Cut k (items_of g.trail) (items_of h.trail) → h.state ≡ Settled → h.level ≡ k
     → view_of h ≡ record { state = Settled; level = k; trail = up_to k (items_of g.trail) }
-dropped rules g h k some c state level =
-    viewed (view_of h) Settled k (up_to k (items_of g.trail)) state level
-    (c.is ∙ ∥∥₁_elim some (hlevel props) (λ r. front_up_to rules k c.left (run_keeps rules r.run).trail c.front.few c.front.all c.front.last))
+dropped rules g h k some c state level = viewed (view_of h) Settled k (up_to k (items_of g.trail)) state level (c.is ∙ cut_to rules (view_of g) some k c.left c.front)
 
 pub back_done : (rules : List Meaning) (v w : View) (k : ℕ) → None ≡ first_failed (checks v (Back k)) → w ≡ record { state = Settled; level = k; trail = up_to k v.trail } → Does rules v (Back k) (Ok reply.Done) w
 back_done rules v w k p e = does (sym p) (record { answer = refl; view = e })

@@ -1,19 +1,20 @@
 use Rattle.std.proofs.Common.{refl, ◌∙◌}
 use Rattle.rules.specs.declared.Verdict.TheVariants.{Quiet, Broken, Forced}
-use Rattle.runs.specs.Calls.{quiet, broken}
-use Rattle.session.proofs.Settling.{again, asked}
+use Rattle.runs.specs.declared.calls.State.TheVariants.{Settled, Clashed}
+use Rattle.session.proofs.Settling.{again, asked, ran_quiet, ran_broken}
 use Rattle.session.proofs.tied.Tied.settle.Goals as goal
 
 pub returns-in-Quiet-clause-ran : goal.returns-in-Quiet-clause-ran
 returns-in-Quiet-clause-ran g c =
     let i = c.loop-self.invariant in
-    record { settles = i.1.settles _ Quiet (quiet (asked _ _ _ _ Quiet c.loop-self.self.told i.0 c.in-Quiet.ensures)); state = refl; level = i.1.level }
+    let x = c.loop-self.self in
+    ran_quiet _ _ x.log (record x.log { state = Settled }) i.1 (asked _ _ _ _ Quiet x.told i.0 c.in-Quiet.ensures) refl refl refl
 
 pub returns-in-Broken-clause-ran : goal.returns-in-Broken-clause-ran
 returns-in-Broken-clause-ran g c =
     let i = c.loop-self.invariant in
-    let v = Broken c.in-Broken.rule in
-    record { settles = i.1.settles _ v (broken (asked _ _ _ _ v c.loop-self.self.told i.0 c.in-Broken.ensures)); state = refl; level = i.1.level }
+    let x = c.loop-self.self in
+    ran_broken _ _ x.log (record x.log { state = Clashed c.in-Broken.rule }) c.in-Broken.rule i.1 (asked _ _ _ _ (Broken c.in-Broken.rule) x.told i.0 c.in-Broken.ensures) refl refl refl
 
 pub loop-self-preserved : goal.loop-self-preserved
 loop-self-preserved g c =
