@@ -1,5 +1,5 @@
 -- A line field by field: what stands of fields one behind the other, written out for each of the five.
-use Rattle.std.proofs.Common.{◌≡◌, ℕ, List, [], ◌∷◌, sym, ap, subst, arith}
+use Rattle.std.proofs.Common.{◌≡◌, ℕ, List, [], ◌∷◌, refl, sym, ap, subst, arith}
 use Rattle.cursor.specs.declared.close.Close.TheVariants.{Space, Break}
 use Rattle.cursor.specs.Fields.{FieldAt, NoFieldAt, past}
 use Rattle.cursor.proofs.Fields.{same_field, space, break}
@@ -110,3 +110,18 @@ no_line_here {t} {s} {p} {q} e f n = subst (λ (k : ℕ). NoLineAt t k) f (no_li
 
 pub none_carried : {xs ys : List ℕ} {p x : ℕ} → ys ≡ xs → NoFieldAt ys p x → NoFieldAt xs p x
 none_carried {xs} {ys} {p} {x} e n = subst (λ (zs : List ℕ). NoFieldAt zs p x) e n
+
+-- ---- a line has five fields, and of these the five facts hold
+
+pub line_is : (t : List ℕ) (p : ℕ) (w : List (List ℕ)) → LineAt t p w
+    → (a : List ℕ) × (b : List ℕ) × (c : List ℕ) × (d : List ℕ) × (e : List ℕ) × (w ≡ a ∷ b ∷ c ∷ d ∷ e ∷ [])
+    × FieldAt t p a 32 × FieldAt t (past p a) b 32 × FieldAt t (past (past p a) b) c 32
+    × FieldAt t (past (past (past p a) b) c) d 32 × FieldAt t (past (past (past (past p a) b) c) d) e 10
+line_is t p [] l = absurd l.fields
+line_is t p (a ∷ []) l = absurd l.fields.1
+line_is t p (a ∷ b ∷ []) l = absurd l.fields.1.1
+line_is t p (a ∷ b ∷ c ∷ []) l = absurd l.fields.1.1.1
+line_is t p (a ∷ b ∷ c ∷ d ∷ []) l = absurd l.fields.1.1.1.1
+line_is t p (a ∷ b ∷ c ∷ d ∷ e ∷ []) l =
+    (a, b, c, d, e, refl, l.fields.0, l.fields.1.0, l.fields.1.1.0, l.fields.1.1.1.0, l.fields.1.1.1.1.0)
+line_is t p (a ∷ b ∷ c ∷ d ∷ e ∷ f ∷ w) l = absurd l.fields.1.1.1.1.1
