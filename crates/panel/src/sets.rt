@@ -56,3 +56,27 @@ pub fn read_sets(heap: Global, text: &str) -> Result<Vec<Setting>, Trouble> {
     }
     Ok(sets)
 }
+
+#[cfg(test)]
+mod tests {
+    use super::*;
+
+    #[test]
+    fn names_the_line_and_the_refusal(rt: HostRuntime) {
+        let cases = [
+            ("x", 1, Refusal::NotNumber),
+            ("4\n1 2 x", 2, Refusal::NotNumber),
+            ("4 1\n\n65", 3, Refusal::OutOfRange),
+            ("0\nx", 1, Refusal::OutOfRange),
+            ("100000 x", 1, Refusal::OutOfRange),
+        ];
+        for (text, line, refusal) in cases {
+            let trouble = Trouble::Refused { line, refusal };
+            assert_eq!(rt;
+                read_sets(rt.alloc(), text).err(),
+                Some(trouble),
+                "at {text}"
+            );
+        }
+    }
+}
