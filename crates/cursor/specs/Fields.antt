@@ -5,8 +5,9 @@
 --   past        where the reading goes on after a field and the byte that ends it
 --   FieldAt     at a place of the text stands this field, and then this byte
 --   NoFieldAt   no field stands there before this byte
---   FieldEnd    where plain bytes come to an end, at a byte that is not plain
-use Rattle.std.specs.Prelude.{◌≡◌, ℕ, ◌+◌, ◌<◌, List, ◌∷◌, ◌++◌, length, drop, ◌≢◌, slice_index}
+--   Stops       a byte is not plain, or the text ends there
+--   FieldEnd    where plain bytes come to an end
+use Rattle.std.specs.Prelude.{◌≡◌, ℕ, ◌+◌, ◌<◌, ◌≤◌, List, ◌∷◌, ◌++◌, length, drop, ◌≢◌, slice_index}
 use Rattle.cursor.specs.declared.close.Close.{Close}
 use Rattle.cursor.specs.declared.close.Close.TheVariants.{Space, Break}
 
@@ -33,7 +34,12 @@ pub record FieldAt (text : List ℕ) (p : ℕ) (f : List ℕ) (x : ℕ) : Type 0
 abbrev pub NoFieldAt : List ℕ → ℕ → ℕ → Type 0
 NoFieldAt text p x = (f : List ℕ) → FieldAt text p f x → ⊥
 
-pub record FieldEnd (xs : List ℕ) (end : ℕ) : Type 0 where
-  pub within : end < length xs
-  pub plain : (k : ℕ) → k < end → Plain (slice_index xs k)
-  pub stops : ¬ (Plain (slice_index xs end))
+-- the byte at k is a space or a line break, or the text ends there
+abbrev pub Stops : List ℕ → ℕ → Type 0
+Stops xs k = k < length xs → Plain (slice_index xs k) → ⊥
+
+pub record FieldEnd (xs : List ℕ) (at end : ℕ) : Type 0 where
+  pub after : at ≤ end
+  pub within : end ≤ length xs
+  pub plain : (k : ℕ) → at ≤ k → k < end → Plain (slice_index xs k)
+  pub stops : Stops xs end

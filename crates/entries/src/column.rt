@@ -1,3 +1,4 @@
+ghost use Rattle.std.specs.Prelude.{◌≢◌, Decides};
 ghost use Rattle.entries.specs.Columns.{Named};
 
 use std::error::Error;
@@ -32,6 +33,14 @@ impl<'a> TryFrom<&'a [u8]> for Column {
             b"switch" => Ok(Column::Switch),
             _ => Err(UnknownColumn),
         }
+    }
+}
+
+impl Column {
+    pub fn differs(self, other: Column) -> bool
+        ensures { Decides result (self ≢ other) }
+    {
+        self != other
     }
 }
 

@@ -1,3 +1,4 @@
+ghost use Rattle.std.specs.Prelude.{◌≡◌, Decides};
 ghost use Rattle.entries.specs.Kinds.{Lettered};
 
 use std::error::Error;
@@ -30,6 +31,14 @@ impl<'a> TryFrom<&'a [u8]> for RuleKind {
             b"c" => Ok(RuleKind::Clause),
             _ => Err(UnknownKind),
         }
+    }
+}
+
+impl RuleKind {
+    pub fn is(self, other: RuleKind) -> bool
+        ensures { Decides result (self ≡ other) }
+    {
+        self == other
     }
 }
 

@@ -12,6 +12,22 @@ moved {t} {f} {p} {q} {x} e b = subst (λ (n : ℕ). FieldAt t n f x) e b
 missing : {t : List ℕ} {p q x : ℕ} → p ≡ q → NoFieldAt t p x → NoFieldAt t q x
 missing {t} {p} {q} {x} e n = subst (λ (k : ℕ). NoFieldAt t k x) e n
 
+-- ---- five fields that were read one after the other, at the places where the reading stood
+
+module _ (p : ℕ) (a b c d e : List ℕ) (q2 q3 q4 q5 q6 : ℕ)
+    (e2 : q2 ≡ past p a) (e3 : q3 ≡ past q2 b) (e4 : q4 ≡ past q3 c) (e5 : q5 ≡ past q4 d) (e6 : q6 ≡ past q5 e) where
+  abbrev read : List (List ℕ)
+  read = a ∷ b ∷ c ∷ d ∷ e ∷ []
+
+  pub line_ends : q6 ≡ after p read
+  line_ends = omega arith
+
+  pub line_places : p ∷ q2 ∷ q3 ∷ q4 ∷ q5 ∷ [] ≡ places p read
+  line_places = cc (e2, e3, e4, e5)
+
+  pub whole_line : {t : List ℕ} → FieldAt t p a 32 → FieldAt t q2 b 32 → FieldAt t q3 c 32 → FieldAt t q4 d 32 → FieldAt t q5 e 10 → LineAt t p read
+  whole_line b1 b2 b3 b4 b5 = record { fields = (b1, (moved e2 b2, (moved (omega arith) b3, (moved (omega arith) b4, (moved (omega arith) b5, tt))))) }
+
 -- ---- where a field is missing, no line stands
 
 module _ (t : List ℕ) (p : ℕ) where
@@ -44,19 +60,6 @@ module _ (t : List ℕ) (p : ℕ) where
           pub no_fifth : NoFieldAt t q5 10 → NoLineAt t p
           no_fifth n w l =
               no_fields t p (Space ∷ Space ∷ Space ∷ Space ∷ []) (a ∷ b ∷ c ∷ d ∷ []) Break [] w (b1, (moved e2 b2, (moved at3 b3, (moved at4 b4, tt)))) (missing at5 n) l.fields
-
-          module _ (e : List ℕ) (q6 : ℕ) (e6 : q6 ≡ past q5 e) where
-            abbrev read : List (List ℕ)
-            read = a ∷ b ∷ c ∷ d ∷ e ∷ []
-
-            pub line_ends : q6 ≡ after p read
-            line_ends = omega arith
-
-            pub line_places : p ∷ q2 ∷ q3 ∷ q4 ∷ q5 ∷ [] ≡ places p read
-            line_places = cc (e2, at3, at4, at5)
-
-            pub whole_line : FieldAt t q5 e 10 → LineAt t p read
-            whole_line b5 = record { fields = (b1, (moved e2 b2, (moved at3 b3, (moved at4 b4, (moved at5 b5, tt))))) }
 
 -- ---- one line stands at a place: the fields are the same one after the other, and begin at the same places
 

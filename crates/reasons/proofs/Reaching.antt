@@ -40,7 +40,7 @@ module _ (rules : List Meaning) (t : List Step) where
   module _ (once : distinct (literals_on t) ≡ true) (p : ℕ) where
     -- ---- at the start only the place itself is marked
 
-    starts : (x : Step) → Numbered t p x → AllMarked rules t p p (plus nothing x.literal)
+    pub starts : (x : Step) → Numbered t p x → AllMarked rules t p p (plus nothing x.literal)
     starts x at k y n = (
       (λ h. ⊎_elim (λ (e : x.literal ≡ y.literal). inl (sym (one_place t once at n (ap (λ (l : Literal). l.switch) e))))
           (λ q. absurd (cc (nothing-stands y.literal))) (plus_cases nothing x.literal y.literal h)),
@@ -49,7 +49,7 @@ module _ (rules : List Meaning) (t : List Step) where
           (λ w. let low = reaches_low w.2 in let high = w.1 in absurd (omega arith)) h),
     )
 
-    none_yet : Collected rules t p p nothing
+    pub none_yet : Collected rules t p p nothing
     none_yet l = (
       (λ h. absurd (cc (nothing-stands l))),
       (λ (h : Chosen rules t p p l). let low = reaches_low h.reached in let high = h.behind in absurd (omega arith)),
@@ -98,10 +98,10 @@ module _ (rules : List Meaning) (t : List Step) where
         here : Reaches rules t p i → stands marked x.literal ≡ true
         here r = (all i x at).1 (reaches_marked r)
 
-        unmarked : stands marked x.literal ≡ false → AllMarked rules t p m marked × Collected rules t p m chosen
+        pub unmarked : stands marked x.literal ≡ false → AllMarked rules t p m marked × Collected rules t p m chosen
         unmarked e = (same_marked marked (λ k r l. cc (here r)) all, same_chosen chosen (λ r z. cc (here r)) some)
 
-        at_chosen : stands marked x.literal ≡ true → x.rule ≡ None → AllMarked rules t p m marked × Collected rules t p m (plus chosen x.literal)
+        pub at_chosen : stands marked x.literal ≡ true → x.rule ≡ None → AllMarked rules t p m marked × Collected rules t p m (plus chosen x.literal)
         at_chosen e z = (same_marked marked (λ k r l. nowhere k l) all, grown)
           where
             nowhere : (k : ℕ) → Leads rules t i k → ⊥
@@ -122,7 +122,7 @@ module _ (rules : List Meaning) (t : List Step) where
                   (split c.place c.behind)),
             )
 
-        at_locked : (rule : ℕ) (marked' : Setting) → stands marked x.literal ≡ true → x.rule ≡ Some rule → Marks rules (take m t) rule marked marked'
+        pub at_locked : (rule : ℕ) (marked' : Setting) → stands marked x.literal ≡ true → x.rule ≡ Some rule → Marks rules (take m t) rule marked marked'
             → AllMarked rules t p m marked' × Collected rules t p m chosen
         at_locked rule marked' e z marks = (more, same_chosen chosen (λ r q. cc) some)
           where

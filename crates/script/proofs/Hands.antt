@@ -13,8 +13,12 @@ use Rattle.runs.specs.declared.calls.Reply.TheVariants as reply
 use Rattle.runs.specs.Views.{View}
 use Rattle.runs.specs.Calls.{Answered, is_clashed, checks, Said, state_by, Does, refused, done}
 use Rattle.session.specs.declared.receipt.Receipt.{Receipt}
+use Rattle.session.specs.declared.session.Session.{Session}
+use Rattle.session.specs.Sessions.{seen}
+use Rattle.script.specs.declared.player.Player.{Player}
+use Rattle.script.specs.declared.request.Request.{Request}
 use Rattle.script.specs.Players.{Hand}
-use Rattle.script.specs.Plays.{Out, NoneOut}
+use Rattle.script.specs.Plays.{call_of, Wants, Out, NoneOut, Plays, called}
 
 -- ---- where no clash stands, nothing is held
 
@@ -75,3 +79,21 @@ module _ (rules : List Meaning) (v w : View) where
   pub settled_clash : (x : Clash) (letter : ℕ) → Does rules v call.Settle (Ok (reply.Clash x letter)) w → Out w x
   settled_clash x letter (refused e q p same) = let z : ◌≡◌ {A = ℕ} 0 1 = cc in absurd (omega arith)
   settled_clash x letter (done q d) = clash_state x letter d.verdict d.said d.state d.level
+
+-- ---- a player that gave an answer
+
+module _ {S L : Type 0} {m n : _} (rules : S → List Meaning) (p q : Player S L m n) (t : Session S L m n) (h : Option Receipt) (r : Option Answered) (a : Answered)
+    (is : q.session ≡ t) (held : q.held ≡ h) (said : r ≡ Some a) where
+  -- that some list of calls led to the session is part of its type
+  pub moved_sound : Hand (seen t) h → Hand (seen q.session) q.held
+  moved_sound hand = subst (λ (x : Session S L m n). Hand (seen x) q.held) (sym is) (subst (Hand (seen t)) (sym held) hand)
+
+  pub moved_rules : rules t.tied.shelf ≡ rules p.session.tied.shelf → rules q.session.tied.shelf ≡ rules p.session.tied.shelf
+  moved_rules e = ap (λ (x : Session S L m n). rules x.tied.shelf) is ∙ e
+
+  pub moved_plays : (req : Request) (x : Clash) → (Wants req → Out (seen p.session) x)
+      → Does (rules p.session.tied.shelf) (seen p.session) (call_of req x) a (seen t)
+      → Plays (rules p.session.tied.shelf) (seen p.session) req r (seen q.session)
+  moved_plays req x out d =
+      subst (λ (y : Option Answered). Plays (rules p.session.tied.shelf) (seen p.session) req y (seen q.session)) (sym said)
+      (subst (λ (y : Session S L m n). Plays (rules p.session.tied.shelf) (seen p.session) req (Some a) (seen y)) (sym is) (called x out d))

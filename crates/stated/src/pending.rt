@@ -1,4 +1,5 @@
-ghost use Rattle.std.specs.Prelude.{◌≡◌};
+ghost use Rattle.std.specs.Prelude.{◌≡◌, length};
+ghost use Rattle.bounded.specs.Held.{held};
 
 mod methods;
 
@@ -17,4 +18,5 @@ pub struct Pending {
     bound: u32,
     weights: Bounded<u16, KEPT>,
     numbers: Bounded<i16, KEPT>,
+    ghost even: { length (held weights) ≡ length (held numbers) },
 }

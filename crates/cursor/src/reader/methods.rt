@@ -1,5 +1,5 @@
-ghost use Rattle.std.specs.Prelude.{◌≡◌, ℕ, ◌≤◌, List, length, Decides, MatchOption};
-ghost use Rattle.cursor.specs.Fields.{AllPlain, FieldAt, FieldEnd, NoFieldAt, Plain, byte_of, past};
+ghost use Rattle.std.specs.Prelude.{◌≡◌, ℕ, ◌<◌, ◌≤◌, List, length, Decides, MatchOption};
+ghost use Rattle.cursor.specs.Fields.{FieldAt, FieldEnd, NoFieldAt, Plain, byte_of, past};
 
 use crate::close::Close;
 use crate::field::Field;
@@ -14,7 +14,9 @@ fn ends(byte: u8) -> bool
 
 // The place of the first byte that ends a field.
 fn field_end(text: &[u8]) -> Option<usize>
-    ensures { MatchOption result (AllPlain text.now) (FieldEnd text.now) }
+    ensures { MatchOption result
+        (FieldEnd text.now 0 (length text.now))
+        (λ end. FieldEnd text.now 0 end × (end < length text.now)) }
 {
     text.iter().position(|&byte| ends(byte))
 }

@@ -1,5 +1,5 @@
-ghost use Rattle.std.specs.Prelude.{◌≡◌, IfOk, if◌then◌else◌, Some, None};
-ghost use Rattle.literals.specs.Literals.{no_switch, opposite};
+ghost use Rattle.std.specs.Prelude.{◌≡◌, IfOk, if◌then◌else◌, Some, None, Decides};
+ghost use Rattle.literals.specs.Literals.{no_switch, opposite, same};
 ghost use Rattle.literals.specs.Refusals.{refusal_of};
 
 use crate::literal::Literal;
@@ -34,6 +34,15 @@ impl Literal {
         ensures { result ≡ self.on }
     {
         self.on
+    }
+
+    // Both literals say the same of the same switch.
+    #[tactic(auto, using(crate::proofs::Known::equal_same, crate::proofs::Known::same_decides))]
+    pub fn is_same(self, other: Literal) -> bool
+        ensures test { result ≡ same self other }
+        ensures is { Decides result (self ≡ other) }
+    {
+        self == other
     }
 
     // The literal that says the contrary of the same switch.
