@@ -11,7 +11,7 @@ pub struct Player<S: Shelf> {
     pub(crate) held: Option<Receipt>,
 }
 
-// A clause sees the fields, as of a session.
+// A clause sees the fields. A model says what is held, for the reason that a session has one.
 impl<S: Shelf> Model for Player<S> {
     ghost use Rattle.script.specs.Players.{Hand, Player as Seen};
     ghost use Rattle.session.specs.Sessions.{seen};

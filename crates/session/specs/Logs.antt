@@ -37,7 +37,7 @@ pub record Reached (rules : List Meaning) (v : View) : Type 0 where
   pub events : List Event
   pub run : Run rules opened events v
 
--- a session's log, over a shelf with these rules that was told these literals
+-- what holds of every session: of its log, over a shelf with these rules that was told these literals
 pub record Sound (rules : List Meaning) (ls : List Literal) (g : Log) : Type 0 where
   pub told : TrailTold ls g
   pub reached : Reached rules (view_of g)

@@ -11,8 +11,8 @@ pub struct Session<S: Shelf> {
     pub(crate) tied: Tied<S>,
 }
 
-// A clause sees the field. The shelf was told the literals of the trail, and some list of calls led here: by a model, since a struct with a
-// ghost field that cites a bound cannot be a field of a struct over a kind of shelf that only a generic `impl` makes one, as `Plain` is.
+// A clause sees the field. The shelf was told the literals of the trail, and some list of calls led here. A model says so and no ghost field:
+// one that cites a bound would keep a session over `Plain`, which only a generic `impl` makes a shelf, out of every caller's struct.
 impl<S: Shelf> Model for Session<S> {
     ghost use Rattle.session.specs.Logs.{Sound};
     ghost use Rattle.session.specs.Sessions.{Session as Seen};

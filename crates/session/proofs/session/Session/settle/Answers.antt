@@ -32,12 +32,12 @@ returns-clause-does g c =
     let before = c.count-before in
     rw (← c.self.view_is)
     (elim c.match-settle.branch [
-      in-None w ↦
-      let ran = w.in-None.ensures.ran in
-      let longer = settles_longer _ _ ran.settles in
-      let grown : length (items_of x.trail) + (w.count.result - before.result) ≡ length (items_of h.trail) = omega (arith, longer, before.ensures, w.count.ensures) in
-      rw w.result-is (settle_quiet _ x h (w.count.result - before.result) c.in_ok-admit.ensures ran grown)
-    | in-Some+in-Ok w ↦
-      let some = w.in-Some.ensures in
-      rw w.result-is (settle_broken _ x h w.in-Some.rule w.in-Ok.letter c.in_ok-admit.ensures some.ran (rw some.rules at w.in-Ok.ensures.is))
+      | in-None w ↦
+          let ran = w.in-None.ensures.ran in
+          let longer = settles_longer _ _ ran.settles in
+          let grown : length (items_of x.trail) + (w.count.result - before.result) ≡ length (items_of h.trail) = omega (arith, longer, before.ensures, w.count.ensures) in
+          rw w.result-is (settle_quiet _ x h (w.count.result - before.result) c.in_ok-admit.ensures ran grown)
+      | in-Some+in-Ok w ↦
+          let some = w.in-Some.ensures in
+          rw w.result-is (settle_broken _ x h w.in-Some.rule w.in-Ok.letter c.in_ok-admit.ensures some.ran (rw some.rules at w.in-Ok.ensures.is))
     ])
