@@ -12,6 +12,8 @@ pub fn alike<A: Shelf, B: Shelf>(first: &Session<A>, second: &Session<B>) -> boo
     ensures alike { Decides result (Alike (seen first.now) (seen second.now)) }
     ensures agree { Match (A.Shelf.rules first.now.tied.shelf) (B.Shelf.rules second.now.tied.shelf) → Same (chosen_in (seen first.now).trail) (chosen_in (seen second.now).trail) → Agree (seen first.now) (seen second.now) }
 {
+    first.laws();
+    second.laws();
     // The set of what stands tells how long the trail is and how many switches are free: no switch stands twice.
     first.level() == second.level() && first.standing() == second.standing()
 }

@@ -1,5 +1,6 @@
 ghost use Rattle.std.specs.Prelude.{◌≡◌, IfOk, OnOk};
 ghost use Rattle.runs.specs.Laws.{Laws};
+ghost use Rattle.script.specs.Players.{Hand};
 ghost use Rattle.script.specs.Plays.{Replayed};
 ghost use Rattle.session.specs.Sessions.{seen};
 
@@ -25,6 +26,7 @@ pub fn replay<S: Shelf + Drop>(
     ensures rules { IfOk result (λ x. S.Shelf.rules x.player.session.tied.shelf ≡ S.Shelf.rules shelf) }
     ensures replayed { IfOk result (λ x. Replayed (S.Shelf.rules shelf) requests.now x.answers.items (seen x.player.session)) }
     ensures laws { OnOk result (Laws (S.Shelf.rules shelf)) }
+    ensures hand { IfOk result (λ x. Hand (seen x.player.session) x.player.held) }
 {
     let mut answers = Vec::with_capacity(heap, requests.len())?;
     let mut player = Player::open(shelf);

@@ -1,7 +1,12 @@
--- What is seen of a session.
+-- A session, as clauses see it.
+--   Session   the shelf and the log, tied
+--   seen      what is seen of them
 use Rattle.runs.specs.Views.{View}
-use Rattle.session.specs.declared.session.Session.{Session}
+use Rattle.session.specs.declared.tied.Tied.{Tied}
 use Rattle.session.specs.Logs.{view_of}
 
-abbrev pub seen : {S L : Type 0} {m n : _} → Session S L m n → View
+pub record Session (S : Type 0) : Type 0 where
+  pub tied : Tied S
+
+abbrev pub seen : {S : Type 0} → Session S → View
 seen x = view_of x.tied.log

@@ -1,6 +1,7 @@
 ghost use Rattle.std.specs.Prelude.{◌≡◌};
 ghost use Rattle.runs.specs.Laws.{Laws};
 ghost use Rattle.runs.specs.Views.{opened};
+ghost use Rattle.script.specs.Players.{Hand};
 ghost use Rattle.script.specs.Plays.{Plays};
 ghost use Rattle.session.specs.Sessions.{seen};
 
@@ -17,6 +18,7 @@ impl<S: Shelf> Player<S> {
         ensures rules { S.Shelf.rules result.session.tied.shelf ≡ S.Shelf.rules shelf }
         ensures view { seen result.session ≡ opened }
         ensures laws { Laws (S.Shelf.rules shelf) }
+        ensures hand { Hand (seen result.session) result.held }
     {
         Player {
             session: Session::open(shelf),
@@ -25,7 +27,8 @@ impl<S: Shelf> Player<S> {
     }
 
     pub fn session(&self) -> &Session<S>
-        ensures { result.now ≡ self.now.session }
+        ensures session { result.now ≡ self.now.session }
+        ensures hand { Hand (seen self.now.session) self.now.held }
     {
         &self.session
     }
@@ -35,6 +38,7 @@ impl<S: Shelf> Player<S> {
     pub fn play(self, request: Request) -> (Player<S>, Option<Answer>)
         ensures rules { S.Shelf.rules result.0.session.tied.shelf ≡ S.Shelf.rules self.session.tied.shelf }
         ensures plays { Plays (S.Shelf.rules self.session.tied.shelf) (seen self.session) request result.1 (seen result.0.session) }
+        ensures hand { Hand (seen result.0.session) result.0.held }
     {
         let Player { mut session, held } = self;
         let (held, answer) = call(&mut session, held, request);

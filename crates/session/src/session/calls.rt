@@ -3,6 +3,7 @@ ghost use Rattle.literals.specs.Refusals.{first_failed};
 ghost use Rattle.runs.specs.Calls.{checks, Does};
 ghost use Rattle.runs.specs.Laws.{Laws};
 ghost use Rattle.runs.specs.Views.{opened};
+ghost use Rattle.session.specs.Logs.{Reached, TrailTold};
 ghost use Rattle.session.specs.Outcomes.{done, settled, spent};
 ghost use Rattle.session.specs.Sessions.{seen};
 ghost use Rattle.shelf.specs.Meanings.{Every, Lawful};
@@ -26,10 +27,12 @@ impl<S: Shelf> Session<S> {
         }
     }
 
-    // Does nothing: what it ensures holds of the session's rules, and after every list of calls over them.
+    // Does nothing: what it ensures holds of the session's rules, after every list of calls over them, and of this session.
     pub fn laws(&self)
         ensures lawful { Every (S.Shelf.rules self.now.tied.shelf) Lawful }
         ensures laws { Laws (S.Shelf.rules self.now.tied.shelf) }
+        ensures told { TrailTold (S.Shelf.told self.now.tied.shelf) self.now.tied.log }
+        ensures reached { Reached (S.Shelf.rules self.now.tied.shelf) (seen self.now) }
     {
         laws_over_runs(&self.tied.shelf);
     }
@@ -37,6 +40,7 @@ impl<S: Shelf> Session<S> {
     // Gives the shelf back, as it stands.
     pub fn into_shelf(self) -> S
         ensures shelf { result ≡ self.tied.shelf }
+        ensures told { TrailTold (S.Shelf.told result) self.tied.log }
     {
         self.tied.shelf
     }

@@ -2,7 +2,7 @@ ghost use Rattle.std.specs.Prelude.{◌≡◌, ◌+◌, ◌<◌, true, [], ◌�
 ghost use Rattle.told.specs.Trails.{items_of};
 ghost use Rattle.literals.specs.Settings.{free};
 ghost use Rattle.runs.specs.Views.{opened, standing, step as stepped};
-ghost use Rattle.session.specs.Logs.{Cut, Ran, view_of};
+ghost use Rattle.session.specs.Logs.{Cut, Ran, TrailTold, view_of};
 
 use crate::log::Log;
 use crate::tied::Tied;
@@ -15,6 +15,7 @@ use shelf::Shelf;
 impl<S: Shelf> Tied<S> {
     // Takes back all that the shelf was told.
     pub(crate) fn new(mut shelf: S) -> Tied<S>
+        ensures told { TrailTold (S.Shelf.told result.shelf) result.log }
         ensures rules { S.Shelf.rules result.shelf ≡ S.Shelf.rules shelf }
         ensures view { view_of result.log ≡ opened }
     {
@@ -27,7 +28,9 @@ impl<S: Shelf> Tied<S> {
 
     // Tells the shelf a free literal, and puts it on the trail.
     fn put(&mut self, step: Step)
-        requires { free (standing (items_of self.old.log.trail)) step.literal ≡ true }
+        requires told { TrailTold (S.Shelf.told self.old.shelf) self.old.log }
+        requires free { free (standing (items_of self.old.log.trail)) step.literal ≡ true }
+        ensures told { TrailTold (S.Shelf.told self.new.shelf) self.new.log }
         ensures rules { S.Shelf.rules self.new.shelf ≡ S.Shelf.rules self.old.shelf }
         ensures steps { items_of self.new.log.trail ≡ items_of self.old.log.trail ++ step ∷ [] }
         ensures state { self.new.log.state ≡ self.old.log.state }
@@ -39,8 +42,10 @@ impl<S: Shelf> Tied<S> {
 
     // Puts a free literal on the trail as chosen, a level higher. What follows from it is not on the trail yet.
     pub(crate) fn choose(&mut self, literal: Literal)
+        requires told { TrailTold (S.Shelf.told self.old.shelf) self.old.log }
         requires free { free (standing (items_of self.old.log.trail)) literal ≡ true }
         requires low { self.old.log.level < 255 }
+        ensures told { TrailTold (S.Shelf.told self.new.shelf) self.new.log }
         ensures rules { S.Shelf.rules self.new.shelf ≡ S.Shelf.rules self.old.shelf }
         ensures steps { items_of self.new.log.trail ≡ items_of self.old.log.trail ++ stepped literal (self.old.log.level + 1) None ∷ [] }
         ensures state { self.new.log.state ≡ State.Unsettled }
@@ -58,6 +63,8 @@ impl<S: Shelf> Tied<S> {
 
     // Locks what the shelf forces, until it is quiet, or says which rule is broken.
     pub(crate) fn settle(&mut self) -> Option<usize>
+        requires told { TrailTold (S.Shelf.told self.old.shelf) self.old.log }
+        ensures told { TrailTold (S.Shelf.told self.new.shelf) self.new.log }
         ensures rules { S.Shelf.rules self.new.shelf ≡ S.Shelf.rules self.old.shelf }
         ensures ran { Ran (S.Shelf.rules self.old.shelf) self.old.log result self.new.log }
     {
@@ -85,6 +92,8 @@ impl<S: Shelf> Tied<S> {
 
     // Drops what stands above level k, and is settled there.
     pub(crate) fn drop_above(&mut self, k: u8)
+        requires told { TrailTold (S.Shelf.told self.old.shelf) self.old.log }
+        ensures told { TrailTold (S.Shelf.told self.new.shelf) self.new.log }
         ensures rules { S.Shelf.rules self.new.shelf ≡ S.Shelf.rules self.old.shelf }
         ensures cut { Cut k (items_of self.old.log.trail) (items_of self.new.log.trail) }
         ensures state { self.new.log.state ≡ State.Settled }
@@ -98,6 +107,8 @@ impl<S: Shelf> Tied<S> {
 
     // Nothing but the state changes.
     pub(crate) fn shut(&mut self)
+        requires told { TrailTold (S.Shelf.told self.old.shelf) self.old.log }
+        ensures told { TrailTold (S.Shelf.told self.new.shelf) self.new.log }
         ensures shelf { self.new.shelf ≡ self.old.shelf }
         ensures view { view_of self.new.log ≡ record (view_of self.old.log) { state = State.Shut } }
     {

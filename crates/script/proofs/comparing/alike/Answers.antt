@@ -1,5 +1,4 @@
 use Rattle.std.proofs.Common.{sym, ◌∙◌}
-use Rattle.runs.proofs.Whole.{laws}
 use Rattle.session.specs.Sessions.{seen}
 use Rattle.script.proofs.Likeness.{alike_by, reached_agree}
 use Rattle.script.proofs.comparing.alike.Goals as goal
@@ -13,12 +12,12 @@ returns-then-level-clause-alike g c =
 
 pub returns-then-level-clause-agree : goal.returns-then-level-clause-agree
 returns-then-level-clause-agree g c =
-    let x = c.args.first.now in
-    let y = c.args.second.now in
-    reached_agree _ _ (seen x) (seen y) (laws _ (g.met.A.Shelf.lawful x.tied.shelf)) (laws _ (g.met.B.Shelf.lawful y.tied.shelf)) (g.met.B.Shelf.lawful y.tied.shelf) x.reached y.reached
+    let x = c.laws.ensures in
+    let y = c.laws-2.ensures in
+    reached_agree _ _ (seen c.args.first.now) (seen c.args.second.now) x.laws y.laws y.lawful x.reached y.reached
 
 pub returns-else-level-clause-agree : goal.returns-else-level-clause-agree
 returns-else-level-clause-agree g c =
-    let x = c.args.first.now in
-    let y = c.args.second.now in
-    reached_agree _ _ (seen x) (seen y) (laws _ (g.met.A.Shelf.lawful x.tied.shelf)) (laws _ (g.met.B.Shelf.lawful y.tied.shelf)) (g.met.B.Shelf.lawful y.tied.shelf) x.reached y.reached
+    let x = c.laws.ensures in
+    let y = c.laws-2.ensures in
+    reached_agree _ _ (seen c.args.first.now) (seen c.args.second.now) x.laws y.laws y.lawful x.reached y.reached

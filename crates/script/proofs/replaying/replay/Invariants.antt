@@ -1,5 +1,6 @@
 use Rattle.std.proofs.Common.{◌≡◌, ◌≤◌, length, take, vec_items, vec_len, vec_capacity}
 use Rattle.session.specs.Sessions.{seen}
+use Rattle.script.specs.Players.{Hand}
 use Rattle.script.proofs.Playing.{SoFar}
 use Rattle.script.proofs.replaying.replay.Given as goal
 
@@ -10,3 +11,4 @@ invariant-loop-request g l =
     × SoFar (m.rules l.initial.player.session.tied.shelf) (take l.request-index l.requests) (vec_items l.answers) (seen l.player.session)
     × (vec_len l.answers ≡ l.request-index)
     × (length l.requests ≤ vec_capacity l.answers)
+    × Hand (seen l.player.session) l.player.held

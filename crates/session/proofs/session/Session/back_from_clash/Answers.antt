@@ -1,4 +1,4 @@
-use Rattle.session.specs.Sessions.{seen}
+use Rattle.session.specs.Logs.{view_of}
 use Rattle.session.proofs.Ties.{refused_spent, dropped, back_from_done, next}
 use Rattle.session.proofs.session.Session.back_from_clash.Goals as goal
 
@@ -7,13 +7,15 @@ returns-in_err-spend-clause-does g c = refused_spent _ _ _ c.from_residual.resul
 
 pub invariant_of-self : goal.invariant_of-self
 invariant_of-self g c =
-    let x = c.args.self.now in
+    let x = c.self.inside.tied in
     let drop = c.drop_above.ensures in
-    let e = dropped _ x.tied.log c.drop_above.new.self.log c.args.k x.reached drop.cut drop.state drop.level in
-    record { reached = next _ (seen x) x.reached _ _ _ _ (back_from_done _ (seen x) _ c.args.receipt.clash c.args.k c.in_ok-spend.ensures e) drop.rules }
+    let spend = rw (← c.self.view_is) at c.in_ok-spend.ensures in
+    let e = dropped _ x.log c.drop_above.new.self.log c.args.k c.self.invariant.reached drop.cut drop.state drop.level in
+    record { told = drop.told; reached = next _ (view_of x.log) c.self.invariant.reached _ _ _ _ (back_from_done _ (view_of x.log) _ c.args.receipt.clash c.args.k spend e) drop.rules }
 
 pub returns-clause-does : goal.returns-clause-does
 returns-clause-does g c =
-    let x = c.args.self.now in
+    let x = c.self.inside.tied in
     let drop = c.drop_above.ensures in
-    back_from_done _ (seen x) _ c.args.receipt.clash c.args.k c.in_ok-spend.ensures (dropped _ x.tied.log c.drop_above.new.self.log c.args.k x.reached drop.cut drop.state drop.level)
+    let spend = rw (← c.self.view_is) at c.in_ok-spend.ensures in
+    rw (← c.self.view_is) (back_from_done _ (view_of x.log) _ c.args.receipt.clash c.args.k spend (dropped _ x.log c.drop_above.new.self.log c.args.k c.self.invariant.reached drop.cut drop.state drop.level))

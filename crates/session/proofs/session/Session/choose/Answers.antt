@@ -12,24 +12,25 @@ returns-in_err-literal-clause-does g c =
 pub returns-in_err-admit-clause-does : goal.returns-in_err-admit-clause-does
 returns-in_err-admit-clause-does g c =
     let r = c.from_residual-in_err-admit in
-    refused_done _ (seen c.args.self.now) _ r.result _ r.ensures.1 (simp (to_z-of_z, c.ranges.n) at c.in_err-admit.ensures)
+    rw (← c.self.view_is) (refused_done _ (view_of c.self.inside.tied.log) _ r.result _ r.ensures.1 (simp (to_z-of_z, c.ranges.n) at c.in_err-admit.ensures))
 
 pub choose-requires-clause-free : goal.choose-requires-clause-free
-choose-requires-clause-free g c = choose_free (seen c.args.self.now) c.in_ok-literal.literal _ c.in_ok-literal.ensures.literal c.in_ok-admit.ensures
+choose-requires-clause-free g c = choose_free (view_of c.self.inside.tied.log) c.in_ok-literal.literal _ c.in_ok-literal.ensures.literal c.in_ok-admit.ensures
 
 pub choose-requires-clause-low : goal.choose-requires-clause-low
-choose-requires-clause-low g c = let x = c.args.self.now in let h = level_small _ (seen x) x.reached in omega arith
+choose-requires-clause-low g c = let h = level_small _ (view_of c.self.inside.tied.log) c.self.invariant.reached in omega arith
 
 pub invariant_of-self : goal.invariant_of-self
 invariant_of-self g c =
-    let x = c.args.self.now in
+    let x = view_of c.self.inside.tied.log in
     let chose = c.choose.ensures in
-    let d = choose_done _ (seen x) (view_of c.choose.new.self.log) c.in_ok-literal.literal c.args.n (simp (to_z-of_z, c.ranges.n) at c.in_ok-admit.ensures)
+    let d = choose_done _ x (view_of c.choose.new.self.log) c.in_ok-literal.literal c.args.n (simp (to_z-of_z, c.ranges.n) at c.in_ok-admit.ensures)
     (c.in_ok-literal.ensures.literal ∙ to_z-of_z w32 c.args.n c.ranges.n) chose.steps chose.state chose.level in
-    record { reached = next _ (seen x) x.reached _ _ _ _ d chose.rules }
+    record { told = chose.told; reached = next _ x c.self.invariant.reached _ _ _ _ d chose.rules }
 
 pub returns-clause-does : goal.returns-clause-does
 returns-clause-does g c =
     let chose = c.choose.ensures in
-    choose_done _ (seen c.args.self.now) (view_of c.choose.new.self.log) c.in_ok-literal.literal c.args.n (simp (to_z-of_z, c.ranges.n) at c.in_ok-admit.ensures)
-    (c.in_ok-literal.ensures.literal ∙ to_z-of_z w32 c.args.n c.ranges.n) chose.steps chose.state chose.level
+    rw (← c.self.view_is)
+    (choose_done _ (view_of c.self.inside.tied.log) (view_of c.choose.new.self.log) c.in_ok-literal.literal c.args.n (simp (to_z-of_z, c.ranges.n) at c.in_ok-admit.ensures)
+    (c.in_ok-literal.ensures.literal ∙ to_z-of_z w32 c.args.n c.ranges.n) chose.steps chose.state chose.level)

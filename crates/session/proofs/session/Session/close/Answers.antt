@@ -1,5 +1,5 @@
 use Rattle.std.proofs.Common.{ap}
-use Rattle.session.specs.Sessions.{seen}
+use Rattle.session.specs.Logs.{view_of}
 use Rattle.session.proofs.Ties.{refused_spent, close_done, next}
 use Rattle.session.proofs.session.Session.close.Goals as goal
 
@@ -8,9 +8,12 @@ returns-in_err-spend-clause-does g c = refused_spent _ _ _ c.from_residual.resul
 
 pub invariant_of-self : goal.invariant_of-self
 invariant_of-self g c =
-    let x = c.args.self.now in
+    let x = view_of c.self.inside.tied.log in
     let shut = c.shut.ensures in
-    record { reached = next _ (seen x) x.reached _ _ _ _ (close_done _ (seen x) _ c.args.receipt.clash c.in_ok-spend.ensures shut.view) (ap g.S.Shelf.rules shut.shelf) }
+    let spend = rw (← c.self.view_is) at c.in_ok-spend.ensures in
+    record { told = shut.told; reached = next _ x c.self.invariant.reached _ _ _ _ (close_done _ x _ c.args.receipt.clash spend shut.view) (ap g.S.Shelf.rules shut.shelf) }
 
 pub returns-clause-does : goal.returns-clause-does
-returns-clause-does g c = close_done _ (seen c.args.self.now) _ c.args.receipt.clash c.in_ok-spend.ensures c.shut.ensures.view
+returns-clause-does g c =
+    let spend = rw (← c.self.view_is) at c.in_ok-spend.ensures in
+    rw (← c.self.view_is) (close_done _ (view_of c.self.inside.tied.log) _ c.args.receipt.clash spend c.shut.ensures.view)

@@ -8,12 +8,14 @@ use Rattle.session.proofs.session.Session.trail_place.Goals as goal
 
 pub returns : goal.returns
 returns g c =
-    let t = items_of c.args.self.now.tied.log.trail in
+    let t = items_of c.self.inside.tied.log.trail in
     let i = c.args.place in
     let low = c.if-place-lt1.false in
-    let high : c.args.place ≤ length (items_of c.args.self.now.tied.log.trail) = omega (arith, c.if-place-trail_len.false, c.trail_len.ensures) in
+    let long = rw (← c.self.view_is) at c.trail_len.ensures in
+    let high : c.args.place ≤ length (items_of c.self.inside.tied.log.trail) = omega (arith, c.if-place-trail_len.false, long) in
     let there : no_place t i ≡ false = or_from _ _ (le-ltb i 1 low) (le-ltb (length t) i high) in
-    record {
+    rw (← c.self.view_is)
+    (record {
       refused = ap (λ (b : Bool). cond b (Some NoSuchPlace) None) (sym there);
       step = place_there t c.as_slice.result.now i c.index-as_slice-place.result c.as_slice.ensures low high c.index-as_slice-place.is;
-    }
+    })

@@ -1,6 +1,6 @@
-use Rattle.session.specs.Sessions.{seen}
+use Rattle.session.specs.Logs.{view_of}
 use Rattle.session.proofs.Ties.{traced}
 use Rattle.session.proofs.session.Session.why.Goals as goal
 
 pub explain-requires : goal.explain-requires
-explain-requires g c = let x = c.args.self.now in record { trail = traced _ (seen x) _ x.reached c.as_slice.ensures }
+explain-requires g c = record { trail = traced _ (view_of c.self.inside.tied.log) _ c.self.invariant.reached c.as_slice.ensures }
