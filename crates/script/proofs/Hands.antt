@@ -1,5 +1,6 @@
 -- The receipt in hand is that of the clash that stands, after every request.
 use Rattle.std.proofs.Common.{◌≡◌, ℕ, Bool, true, false, List, ℤ, Some, None, Option, Ok, Err, sym, ap, ◌∙◌, subst, arith}
+use Rattle.literals.specs.declared.literal.Literal.{Literal}
 use Rattle.literals.specs.declared.refusal.Refusal.{Refusal}
 use Rattle.literals.proofs.Refused.{passed}
 use Rattle.rules.specs.declared.Verdict.{Verdict}
@@ -13,11 +14,10 @@ use Rattle.runs.specs.declared.calls.Reply.TheVariants as reply
 use Rattle.runs.specs.Views.{View}
 use Rattle.runs.specs.Calls.{Answered, is_clashed, checks, Said, state_by, Does, refused, done}
 use Rattle.session.specs.declared.receipt.Receipt.{Receipt}
-use Rattle.session.specs.declared.session.Session.{Session}
-use Rattle.session.specs.Sessions.{seen}
-use Rattle.script.specs.declared.player.Player.{Player}
+use Rattle.session.specs.Logs.{Sound}
+use Rattle.session.specs.Sessions.{Session, seen}
 use Rattle.script.specs.declared.request.Request.{Request}
-use Rattle.script.specs.Players.{Hand}
+use Rattle.script.specs.Players.{Player, Hand}
 use Rattle.script.specs.Plays.{call_of, Wants, Out, NoneOut, Plays, called}
 
 -- ---- where no clash stands, nothing is held
@@ -82,18 +82,21 @@ module _ (rules : List Meaning) (v w : View) where
 
 -- ---- a player that gave an answer
 
-module _ {S L : Type 0} {m n : _} (rules : S → List Meaning) (p q : Player S L m n) (t : Session S L m n) (h : Option Receipt) (r : Option Answered) (a : Answered)
+module _ {S : Type 0} (rules : S → List Meaning) (told : S → List Literal) (p q : Player S) (t : Session S) (h : Option Receipt) (r : Option Answered) (a : Answered)
     (is : q.session ≡ t) (held : q.held ≡ h) (said : r ≡ Some a) where
-  -- that some list of calls led to the session is part of its type
-  pub moved_sound : Hand (seen t) h → Hand (seen q.session) q.held
-  moved_sound hand = subst (λ (x : Session S L m n). Hand (seen x) q.held) (sym is) (subst (Hand (seen t)) (sym held) hand)
+  pub moved_sound : Sound (rules t.tied.shelf) (told t.tied.shelf) t.tied.log → Hand (seen t) h
+      → Sound (rules q.session.tied.shelf) (told q.session.tied.shelf) q.session.tied.log × Hand (seen q.session) q.held
+  moved_sound sound hand = (
+    subst (λ (x : Session S). Sound (rules x.tied.shelf) (told x.tied.shelf) x.tied.log) (sym is) sound,
+    subst (λ (x : Session S). Hand (seen x) q.held) (sym is) (subst (Hand (seen t)) (sym held) hand),
+  )
 
   pub moved_rules : rules t.tied.shelf ≡ rules p.session.tied.shelf → rules q.session.tied.shelf ≡ rules p.session.tied.shelf
-  moved_rules e = ap (λ (x : Session S L m n). rules x.tied.shelf) is ∙ e
+  moved_rules e = ap (λ (x : Session S). rules x.tied.shelf) is ∙ e
 
   pub moved_plays : (req : Request) (x : Clash) → (Wants req → Out (seen p.session) x)
       → Does (rules p.session.tied.shelf) (seen p.session) (call_of req x) a (seen t)
       → Plays (rules p.session.tied.shelf) (seen p.session) req r (seen q.session)
   moved_plays req x out d =
       subst (λ (y : Option Answered). Plays (rules p.session.tied.shelf) (seen p.session) req y (seen q.session)) (sym said)
-      (subst (λ (y : Session S L m n). Plays (rules p.session.tied.shelf) (seen p.session) req (Some a) (seen y)) (sym is) (called x out d))
+      (subst (λ (y : Session S). Plays (rules p.session.tied.shelf) (seen p.session) req (Some a) (seen y)) (sym is) (called x out d))

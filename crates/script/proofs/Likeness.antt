@@ -1,6 +1,8 @@
 -- What two sessions tell alike.
 use Rattle.std.proofs.Common.{◌≡◌, ℕ, Bool, true, ◌&&◌, eqb, List, length, ℤ, Decides, sym, ap, ap₂, ◌∙◌, subst, arith}
 use Rattle.std.proofs.lemmas.Bool.Decides.{Decides-eqb, Decides-and, Decides-like}
+use Rattle.std.proofs.Math.Logic.{∥∥₁_elim}
+use Rattle.std.proofs.Props.{props}
 use Rattle.literals.specs.declared.setting.Setting.{Setting}
 use Rattle.literals.specs.Settings.{stands, free_count, ◌⊆◌}
 use Rattle.lists.specs.Lists.{distinct}
@@ -35,13 +37,18 @@ module _ (v w : View) (once : distinct (literals_on v.trail) ≡ true) (once' : 
       (λ h. same_alike level (sym e ∙ d.0 (sym is ∙ h) ∙ f), λ k. is ∙ d.1 (e ∙ alike_same k ∙ sym f))
 
 -- the literals that the trail has as chosen are those that the calls chose
-pub reached_agree : (rules others : List Meaning) (v w : View) → Laws rules → Laws others → Every others Lawful → Reached rules v → Reached others w → Match rules others
+runs_agree : (rules others : List Meaning) (v w : View) → Laws rules → Laws others → Every others Lawful → Reached rules v → Reached others w → Match rules others
     → Same (chosen_in v.trail) (chosen_in w.trail) → Agree v w
-reached_agree rules others v w sure sure' lawful r q m e =
+runs_agree rules others v w sure sure' lawful r q m e =
     let p = (sure.sure r.events v r.run).chosen in
     let p' = (sure'.sure q.events w q.run).chosen in
     sure.agree others lawful m r.events q.events v w r.run q.run
     (subst (λ (ns : List ℤ). Same ns (chosen_by q.events)) p (subst (λ (ns : List ℤ). Same (chosen_in v.trail) ns) p' e))
+
+pub reached_agree : (rules others : List Meaning) (v w : View) → Laws rules → Laws others → Every others Lawful → ∥ Reached rules v ∥₁ → ∥ Reached others w ∥₁ → Match rules others
+    → Same (chosen_in v.trail) (chosen_in w.trail) → Agree v w
+reached_agree rules others v w sure sure' lawful some other m e =
+    ∥∥₁_elim some (hlevel props) (λ r. ∥∥₁_elim other (hlevel props) (λ q. runs_agree rules others v w sure sure' lawful r q m e))
 
 -- ---- the same told part by part
 

@@ -1,6 +1,9 @@
 -- What each call does to a session.
 use Rattle.std.proofs.Common.{◌≡◌, ℕ, ◌+◌, ◌-◌, ◌≤◌, true, cond, List, [], ◌∷◌, ◌++◌, length, take, ℤ, IfErr, Some, None, Option, Ok, Err, Result, sym, refl, ap, ◌∙◌, subst, arith, MatchResult}
 use Rattle.std.proofs.lemmas.List.{take-map, length-map, length_push}
+use Rattle.std.proofs.Math.Logic.{∥∥₁_elim, ∥∥₁_map}
+use Rattle.std.proofs.Props.{props}
+use Rattle.std.specs.Coded.{le_prop}
 use Rattle.std.specs.Result.{IsErrAnd}
 use Rattle.told.specs.Trails.{items_of}
 use Rattle.literals.specs.declared.literal.Literal.{Literal}
@@ -28,8 +31,8 @@ use Rattle.runs.specs.declared.calls.State.{State}
 use Rattle.runs.specs.declared.calls.State.TheVariants.{Unsettled, Settled, Shut}
 use Rattle.runs.specs.Views.{View, opened, literals_on, standing, step, up_to}
 use Rattle.runs.specs.Calls.{Answered, clash, checks, input_checks, state_checks, Settles, quiet, broken, locks, Does, refused, done as does}
-use Rattle.runs.specs.Runs.{event, Run, Traced, chosen_by, none, then}
-use Rattle.runs.proofs.Keeping.{Kept, run_keeps, choosable}
+use Rattle.runs.specs.Runs.{event, Run, Traced, none, then}
+use Rattle.runs.proofs.Keeping.{run_keeps, choosable}
 use Rattle.runs.proofs.Levels.{front_up_to}
 use Rattle.runs.proofs.Onces.{settles_answer}
 use Rattle.runs.proofs.Sureness.{chosen_once}
@@ -75,27 +78,26 @@ none_left E r ts us e h = took_back E r ts us 0 (omega arith) e h
 pub opened_tied : (rules : List Meaning) (ls : List Literal) (g : Log) → ls ≡ [] → view_of g ≡ opened → Sound rules ls g
 opened_tied rules ls g e v = record { told = e ∙ ap (λ (x : View). literals_on x.trail) (sym v); reached = opened_reached rules (view_of g) v }
 
-module _ (rules : List Meaning) (v : View) (r : Reached rules v) where
-  kept : Kept rules (chosen_by r.events) v
-  kept = run_keeps rules r.run
-
+module _ (rules : List Meaning) (v : View) (some : ∥ Reached rules v ∥₁) where
   -- a level begins with a chosen literal, and no switch is chosen twice
   pub level_small : v.level ≤ 64
-  level_small = let a = count_free kept.chosen (chosen_once rules kept.trail) in let b = kept.level in omega arith
+  level_small =
+      ∥∥₁_elim some le_prop
+      (λ r. let k = run_keeps rules r.run in let a = count_free k.chosen (chosen_once rules k.trail) in let b = k.level in omega arith)
 
   pub each_once : distinct (literals_on v.trail) ≡ true
-  each_once = once rules kept.trail
+  each_once = ∥∥₁_elim some (hlevel props) (λ r. once rules (run_keeps rules r.run).trail)
 
   -- what is left at level k is the front that the log cuts to
   pub cut_to : (k n : ℕ) → Front k v.trail n → take n v.trail ≡ up_to k v.trail
-  cut_to k n f = front_up_to rules k n kept.trail f.few f.all f.last
+  cut_to k n f = ∥∥₁_elim some (hlevel props) (λ r. front_up_to rules k n (run_keeps rules r.run).trail f.few f.all f.last)
 
-  -- the view after a call
-  pub next : (rules' : List Meaning) (w : View) (c : Call) (a : Answered) → Does rules v c a w → rules' ≡ rules → Reached rules' w
-  next rules' w c a d e = subst (λ (ms : List Meaning). Reached ms w) (sym e) (record { events = r.events ++ event c a ∷ []; run = then r.run d })
+-- the view after a call
+pub next : (rules : List Meaning) (v : View) → Reached rules v → (rules' : List Meaning) (w : View) (c : Call) (a : Answered) → Does rules v c a w → rules' ≡ rules → Reached rules' w
+next rules v r rules' w c a d e = subst (λ (ms : List Meaning). Reached ms w) (sym e) (record { events = r.events ++ event c a ∷ []; run = then r.run d })
 
-pub traced : (rules : List Meaning) (v : View) (t : List Step) → Reached rules v → t ≡ v.trail → ∥ Traced rules t ∥₁
-traced rules v t r e = ∣ record { view = v; events = r.events; run = r.run; trail = sym e } ∣₁
+pub traced : (rules : List Meaning) (v : View) (t : List Step) → ∥ Reached rules v ∥₁ → t ≡ v.trail → ∥ Traced rules t ∥₁
+traced rules v t some e = ∥∥₁_map some (λ r. record { view = v; events = r.events; run = r.run; trail = sym e })
 
 pub cut_told : (E : Type 0) (t u : List Step) (k : ℕ) (ls after : List Literal) (r : Result (Unit {0}) Refusal) (c : Cut k t u) → ls ≡ literals_on t
     → refusal_of r ≡ first_failed (back_checks ls c.left) → MatchResult r (λ _. after ≡ take c.left ls) (λ _. E) → after ≡ literals_on u
@@ -113,9 +115,9 @@ viewed w s k t p q r =
     ∙ ap (λ (u : List Step). record { state = s; level = k; trail = u }) r
 
 -- the log after going back: what is left at level k is the front that it cuts to
-pub dropped : (rules : List Meaning) (g h : Log) (k : ℕ) → Reached rules (view_of g) → Cut k (items_of g.trail) (items_of h.trail) → h.state ≡ Settled → h.level ≡ k
+pub dropped : (rules : List Meaning) (g h : Log) (k : ℕ) → ∥ Reached rules (view_of g) ∥₁ → Cut k (items_of g.trail) (items_of h.trail) → h.state ≡ Settled → h.level ≡ k
     → view_of h ≡ record { state = Settled; level = k; trail = up_to k (items_of g.trail) }
-dropped rules g h k r c state level = viewed (view_of h) Settled k (up_to k (items_of g.trail)) state level (c.is ∙ cut_to rules (view_of g) r k c.left c.front)
+dropped rules g h k some c state level = viewed (view_of h) Settled k (up_to k (items_of g.trail)) state level (c.is ∙ cut_to rules (view_of g) some k c.left c.front)
 
 pub back_done : (rules : List Meaning) (v w : View) (k : ℕ) → None ≡ first_failed (checks v (Back k)) → w ≡ record { state = Settled; level = k; trail = up_to k v.trail } → Does rules v (Back k) (Ok reply.Done) w
 back_done rules v w k p e = does (sym p) (record { answer = refl; view = e })

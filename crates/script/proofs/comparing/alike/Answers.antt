@@ -14,10 +14,10 @@ pub returns-then-level-clause-agree : goal.returns-then-level-clause-agree
 returns-then-level-clause-agree g c =
     let x = c.laws.ensures in
     let y = c.laws-2.ensures in
-    reached_agree _ _ (seen c.args.first.now) (seen c.args.second.now) x.laws y.laws y.lawful x.reached y.reached
+    reached_agree _ _ (seen c.args.first.now) (seen c.args.second.now) x.laws y.laws y.lawful ∣ x.reached ∣₁ ∣ y.reached ∣₁
 
 pub returns-else-level-clause-agree : goal.returns-else-level-clause-agree
 returns-else-level-clause-agree g c =
     let x = c.laws.ensures in
     let y = c.laws-2.ensures in
-    reached_agree _ _ (seen c.args.first.now) (seen c.args.second.now) x.laws y.laws y.lawful x.reached y.reached
+    reached_agree _ _ (seen c.args.first.now) (seen c.args.second.now) x.laws y.laws y.lawful ∣ x.reached ∣₁ ∣ y.reached ∣₁

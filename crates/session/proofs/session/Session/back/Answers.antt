@@ -9,11 +9,11 @@ pub invariant_of-self : goal.invariant_of-self
 invariant_of-self g c =
     let x = c.self.inside.tied in
     let drop = c.drop_above.ensures in
-    let e = dropped _ x.log c.drop_above.new.self.log c.args.k c.self.invariant.reached drop.cut drop.state drop.level in
+    let e = dropped _ x.log c.drop_above.new.self.log c.args.k ∣ c.self.invariant.reached ∣₁ drop.cut drop.state drop.level in
     record { told = drop.told; reached = next _ (view_of x.log) c.self.invariant.reached _ _ _ _ (back_done _ (view_of x.log) _ c.args.k c.in_ok-admit.ensures e) drop.rules }
 
 pub returns-clause-does : goal.returns-clause-does
 returns-clause-does g c =
     let x = c.self.inside.tied in
     let drop = c.drop_above.ensures in
-    rw (← c.self.view_is) (back_done _ (view_of x.log) _ c.args.k c.in_ok-admit.ensures (dropped _ x.log c.drop_above.new.self.log c.args.k c.self.invariant.reached drop.cut drop.state drop.level))
+    rw (← c.self.view_is) (back_done _ (view_of x.log) _ c.args.k c.in_ok-admit.ensures (dropped _ x.log c.drop_above.new.self.log c.args.k ∣ c.self.invariant.reached ∣₁ drop.cut drop.state drop.level))

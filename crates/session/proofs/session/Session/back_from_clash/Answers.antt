@@ -10,7 +10,7 @@ invariant_of-self g c =
     let x = c.self.inside.tied in
     let drop = c.drop_above.ensures in
     let spend = rw (← c.self.view_is) at c.in_ok-spend.ensures in
-    let e = dropped _ x.log c.drop_above.new.self.log c.args.k c.self.invariant.reached drop.cut drop.state drop.level in
+    let e = dropped _ x.log c.drop_above.new.self.log c.args.k ∣ c.self.invariant.reached ∣₁ drop.cut drop.state drop.level in
     record { told = drop.told; reached = next _ (view_of x.log) c.self.invariant.reached _ _ _ _ (back_from_done _ (view_of x.log) _ c.args.receipt.clash c.args.k spend e) drop.rules }
 
 pub returns-clause-does : goal.returns-clause-does
@@ -18,4 +18,4 @@ returns-clause-does g c =
     let x = c.self.inside.tied in
     let drop = c.drop_above.ensures in
     let spend = rw (← c.self.view_is) at c.in_ok-spend.ensures in
-    rw (← c.self.view_is) (back_from_done _ (view_of x.log) _ c.args.receipt.clash c.args.k spend (dropped _ x.log c.drop_above.new.self.log c.args.k c.self.invariant.reached drop.cut drop.state drop.level))
+    rw (← c.self.view_is) (back_from_done _ (view_of x.log) _ c.args.receipt.clash c.args.k spend (dropped _ x.log c.drop_above.new.self.log c.args.k ∣ c.self.invariant.reached ∣₁ drop.cut drop.state drop.level))

@@ -18,7 +18,7 @@ pub choose-requires-clause-free : goal.choose-requires-clause-free
 choose-requires-clause-free g c = choose_free (view_of c.self.inside.tied.log) c.in_ok-literal.literal _ c.in_ok-literal.ensures.literal c.in_ok-admit.ensures
 
 pub choose-requires-clause-low : goal.choose-requires-clause-low
-choose-requires-clause-low g c = let h = level_small _ (view_of c.self.inside.tied.log) c.self.invariant.reached in omega arith
+choose-requires-clause-low g c = let h = level_small _ (view_of c.self.inside.tied.log) ∣ c.self.invariant.reached ∣₁ in omega arith
 
 pub invariant_of-self : goal.invariant_of-self
 invariant_of-self g c =
