@@ -3,12 +3,13 @@
 // The pair, letter x: a shelf made over two shelves. Its rules are the first's and then the second's, with numbers continued,
 // each with the letter of the shelf that holds it.
 ghost use Rattle.std.specs.Prelude.{◌≡◌, []};
-ghost use Rattle.pair.specs.Pairs.{pair_rules, split_of};
+ghost use Rattle.pair.specs.Pairs.{Joined, pair_rules, PairView};
 ghost use Rattle.pair.specs.Laws.{pair_few, pair_lawful};
 
 use literals::Refusal;
 use rules::Verdict;
 use shelf::{Letter, Lettered, MOST_RULES, Shelf};
+use std::marker::Model;
 
 // Both shelves are told the same. `split` is how many rules the first has, none where there are too many in all.
 #[derive(Drop)]
@@ -16,8 +17,16 @@ pub struct Pair<A: Shelf, B: Shelf> {
     first: A,
     second: B,
     split: Option<usize>,
-    ghost same: { A.Shelf.told first ≡ B.Shelf.told second },
-    ghost splits: { split ≡ split_of (A.Shelf.rules first) (B.Shelf.rules second) },
+}
+
+// What holds of every pair is an invariant and no ghost field, so that a struct may keep a pair of shelves that are shelves by a
+// generic impl. The view has all the fields, so contracts read them as if there were none.
+impl<A: Shelf, B: Shelf> Model for Pair<A, B> {
+    ghost Value = { PairView A B };
+
+    ghost view = { λ p. record { first = p.first; second = p.second; split = p.split } };
+
+    ghost invariant = { λ p. Joined (A.Shelf.rules p.first) (B.Shelf.rules p.second) (A.Shelf.told p.first) (B.Shelf.told p.second) p.split };
 }
 
 impl<A: Shelf, B: Shelf> Pair<A, B> {
