@@ -2,7 +2,7 @@
 
 // The pair, letter x: a shelf made over two shelves. Its rules are the first's and then the second's, with numbers continued,
 // each with the letter of the shelf that holds it.
-ghost use Rattle.std.specs.Prelude.{◌≡◌, []};
+ghost use Rattle.std.specs.Prelude.{◌≡◌, [], length};
 ghost use Rattle.pair.specs.Pairs.{Joined, pair_rules, PairView};
 ghost use Rattle.pair.specs.Laws.{pair_few, pair_lawful};
 
@@ -34,6 +34,7 @@ impl<A: Shelf, B: Shelf> Pair<A, B> {
     pub fn join(mut first: A, mut second: B) -> Pair<A, B>
         ensures rules { pair_rules (A.Shelf.rules result.first) (B.Shelf.rules result.second) ≡ pair_rules (A.Shelf.rules first) (B.Shelf.rules second) }
         ensures told { A.Shelf.told result.first ≡ [] }
+        ensures joined { Joined (A.Shelf.rules result.first) (B.Shelf.rules result.second) (A.Shelf.told result.first) (B.Shelf.told result.second) result.split }
     {
         let _ = first.take_back(0);
         let _ = second.take_back(0);
@@ -95,7 +96,11 @@ impl<A: Shelf, B: Shelf> Shelf for Pair<A, B> {
             .map_or(1, |split| split + self.second.rule_count())
     }
 
-    fn told_count(&self) -> usize {
+    // The count of either shelf. Callers see no invariant, so what holds of every pair is said here too.
+    fn told_count(&self) -> usize
+        ensures count { result ≡ length (A.Shelf.told self.now.first) }
+        ensures joined { Joined (A.Shelf.rules self.now.first) (B.Shelf.rules self.now.second) (A.Shelf.told self.now.first) (B.Shelf.told self.now.second) self.now.split }
+    {
         self.first.told_count()
     }
 
