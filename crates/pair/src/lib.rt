@@ -2,9 +2,11 @@
 
 // The pair, letter x: a shelf made over two shelves. Its rules are the first's and then the second's, with numbers continued,
 // each with the letter of the shelf that holds it.
-ghost use Rattle.std.specs.Prelude.{◌≡◌, [], length};
+ghost use Rattle.std.specs.Prelude.{◌≡◌, [], length, MatchResult, take};
+ghost use Rattle.literals.specs.Refusals.{first_failed, refusal_of};
 ghost use Rattle.pair.specs.Pairs.{Joined, pair_rules, PairView};
 ghost use Rattle.pair.specs.Laws.{pair_few, pair_lawful};
+ghost use Rattle.told.specs.Tellings.{Appended, back_checks, tell_checks};
 
 use literals::Refusal;
 use rules::Verdict;
@@ -67,12 +69,23 @@ impl<A: Shelf, B: Shelf> Shelf for Pair<A, B> {
 
     ghost once = { λ p. A.Shelf.once p.first };
 
-    fn tell(&mut self, n: i16) -> Result<(), Refusal> {
+    // Callers see no invariant, so what holds of every pair is said by these two and by `told_count`, beside what the trait says.
+    fn tell(&mut self, n: i16) -> Result<(), Refusal>
+        ensures rules { pair_rules (A.Shelf.rules self.new.first) (B.Shelf.rules self.new.second) ≡ pair_rules (A.Shelf.rules self.old.first) (B.Shelf.rules self.old.second) }
+        ensures refused { refusal_of result ≡ first_failed (tell_checks (A.Shelf.told self.old.first) n) }
+        ensures told { MatchResult result (λ _. Appended (A.Shelf.told self.old.first) n (A.Shelf.told self.new.first)) (λ _. self.new ≡ self.old) }
+        ensures joined { Joined (A.Shelf.rules self.new.first) (B.Shelf.rules self.new.second) (A.Shelf.told self.new.first) (B.Shelf.told self.new.second) self.new.split }
+    {
         self.first.tell(n)?;
         self.second.tell(n)
     }
 
-    fn take_back(&mut self, n: usize) -> Result<(), Refusal> {
+    fn take_back(&mut self, n: usize) -> Result<(), Refusal>
+        ensures rules { pair_rules (A.Shelf.rules self.new.first) (B.Shelf.rules self.new.second) ≡ pair_rules (A.Shelf.rules self.old.first) (B.Shelf.rules self.old.second) }
+        ensures refused { refusal_of result ≡ first_failed (back_checks (A.Shelf.told self.old.first) n) }
+        ensures told { MatchResult result (λ _. A.Shelf.told self.new.first ≡ take n (A.Shelf.told self.old.first)) (λ _. self.new ≡ self.old) }
+        ensures joined { Joined (A.Shelf.rules self.new.first) (B.Shelf.rules self.new.second) (A.Shelf.told self.new.first) (B.Shelf.told self.new.second) self.new.split }
+    {
         self.first.take_back(n)?;
         self.second.take_back(n)
     }
@@ -96,7 +109,7 @@ impl<A: Shelf, B: Shelf> Shelf for Pair<A, B> {
             .map_or(1, |split| split + self.second.rule_count())
     }
 
-    // The count of either shelf. Callers see no invariant, so what holds of every pair is said here too.
+    // The count of either shelf.
     fn told_count(&self) -> usize
         ensures count { result ≡ length (A.Shelf.told self.now.first) }
         ensures joined { Joined (A.Shelf.rules self.now.first) (B.Shelf.rules self.now.second) (A.Shelf.told self.now.first) (B.Shelf.told self.now.second) self.now.split }

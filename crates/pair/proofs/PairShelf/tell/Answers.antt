@@ -24,3 +24,6 @@ invariant_of-self-2 g c =
       same = same_told (a.told p.first) (b.told p.second) (a.told c.tell.new.self) (b.told c.tell-2.new.self) m c.self.invariant.same one.told both;
       splits = c.self.invariant.splits ∙ split_same (a.rules p.first) (b.rules p.second) _ _ one.rules two.rules;
     }
+
+pub returns-clause-joined : goal.returns-clause-joined
+returns-clause-joined g c = invariant_of-self-2 g c
