@@ -1,7 +1,6 @@
--- What a pair knows by its split, and what a refused call leaves of it.
-use Rattle.std.proofs.Common.{◌≡◌, ◌≢◌, ℕ, ◌+◌, ◌-◌, ◌<◌, ◌≤◌, List, [], ◌∷◌, ◌++◌, length, IfOk, Some, None, Option, Result, sym, ap, ◌∙◌, subst, arith}
+-- What a pair knows by its split.
+use Rattle.std.proofs.Common.{◌≡◌, ◌≢◌, ℕ, ◌+◌, ◌-◌, ◌<◌, ◌≤◌, List, [], ◌∷◌, ◌++◌, length, IfOk, Some, None, Result, sym, ap, ◌∙◌, subst, arith}
 use Rattle.std.proofs.lemmas.List.{length-append}
-use Rattle.std.proofs.Props.{props}
 use Rattle.std.proofs.lemmas.Result.{IfOk-weaker}
 use Rattle.std.proofs.lemmas.Bool.Decides.{nat_tests}
 use Rattle.literals.specs.declared.literal.Literal.{Literal}
@@ -14,18 +13,6 @@ use Rattle.shelf.specs.Meanings.{Meaning, Every, Answers, OfRule, shut}
 use Rattle.shelf.proofs.Caps.{over, under, every_shut, of_every, shut_answers}
 use Rattle.shelf.proofs.Lists.{after, answers_first, answers_second, of_left, of_right}
 use Rattle.pair.specs.Pairs.{pair_letter, pair_rules, split_of}
-
--- ---- what a refused call leaves
-
--- a value made again of what it was made of, and of what can be proved in one way only, is that value
-pub rebuilt : {A T : Type 0} {P : A → Type 0} (make : (a : A) → P a → T) → ((a : A) → IsProp (P a)) → {a a' : A} → a' ≡ a → (p' : P a') → (p : P a) → make a' p' ≡ make a p
-rebuilt {A} {T} {P} make prop {a} {a'} e p' p = subst (λ (b : A). (q : P b) → make b q ≡ make a p) (sym e) (λ q. ap (make a) (prop a q p)) p'
-
--- the first shelf is as it was, so the pair is
-pub kept : {A T : Type 0} (told : A → List Literal) (rules : A → List Meaning) (us : List Literal) (ys : List Meaning) (split : Option ℕ)
-    (make : (a : A) → (told a ≡ us) × (split ≡ split_of (rules a) ys) → T) {a a' : A} → a' ≡ a
-    → (p' : (told a' ≡ us) × (split ≡ split_of (rules a') ys)) (p : (told a ≡ us) × (split ≡ split_of (rules a) ys)) → make a' p' ≡ make a p
-kept told rules us ys split make e p' p = rebuilt make (λ b. hlevel props) e p' p
 
 -- ---- the rules
 
