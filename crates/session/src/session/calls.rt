@@ -3,7 +3,7 @@ ghost use Rattle.literals.specs.Refusals.{first_failed};
 ghost use Rattle.runs.specs.Calls.{checks, Does};
 ghost use Rattle.runs.specs.Laws.{Laws};
 ghost use Rattle.runs.specs.Views.{opened};
-ghost use Rattle.session.specs.Logs.{Reached, TrailTold};
+ghost use Rattle.session.specs.Logs.{Reached, Sound, TrailTold};
 ghost use Rattle.session.specs.Outcomes.{done, settled, spent};
 ghost use Rattle.session.specs.Sessions.{seen};
 ghost use Rattle.shelf.specs.Meanings.{Every, Lawful};
@@ -18,6 +18,7 @@ use shelf::Shelf;
 impl<S: Shelf> Session<S> {
     // Takes back all that the shelf was told. Whatever is then called, the laws hold.
     pub fn open(shelf: S) -> Session<S>
+        ensures sound { Sound (S.Shelf.rules result.tied.shelf) (S.Shelf.told result.tied.shelf) result.tied.log }
         ensures rules { S.Shelf.rules result.tied.shelf ≡ S.Shelf.rules shelf }
         ensures view { seen result ≡ opened }
         ensures laws { Laws (S.Shelf.rules shelf) }
@@ -47,6 +48,7 @@ impl<S: Shelf> Session<S> {
 
     // Puts on the trail what is forced, until all is quiet, or a rule is broken. Refused by 28 or 22.
     pub fn settle(&mut self) -> Result<Outcome, Refusal>
+        ensures sound { Sound (S.Shelf.rules self.new.tied.shelf) (S.Shelf.told self.new.tied.shelf) self.new.tied.log }
         ensures rules { S.Shelf.rules self.new.tied.shelf ≡ S.Shelf.rules self.old.tied.shelf }
         ensures does { Does (S.Shelf.rules self.old.tied.shelf) (seen self.old) Call.Settle (settled result) (seen self.new) }
         ensures same { OnErr result (self.new ≡ self.old) }
@@ -73,10 +75,13 @@ impl<S: Shelf> Session<S> {
 
     // Chooses the literal of this number, a level higher. Refused by 1, 28, 22, 23, 24 or 25.
     pub fn choose(&mut self, n: i32) -> Result<(), Refusal>
+        ensures sound { Sound (S.Shelf.rules self.new.tied.shelf) (S.Shelf.told self.new.tied.shelf) self.new.tied.log }
         ensures rules { S.Shelf.rules self.new.tied.shelf ≡ S.Shelf.rules self.old.tied.shelf }
         ensures does { Does (S.Shelf.rules self.old.tied.shelf) (seen self.old) (Call.Choose n) (done result) (seen self.new) }
         ensures same { OnErr result (self.new ≡ self.old) }
     {
+        // It does nothing, and says that the session is sound where no literal is read.
+        self.laws();
         let literal = Literal::try_from(n)?;
         self.tied.log.admit(Call::Choose(n))?;
         self.tied.choose(literal);
@@ -85,6 +90,7 @@ impl<S: Shelf> Session<S> {
 
     // Drops what stands above level k. Refused by 13, 28, 22 or 26.
     pub fn back(&mut self, k: u32) -> Result<(), Refusal>
+        ensures sound { Sound (S.Shelf.rules self.new.tied.shelf) (S.Shelf.told self.new.tied.shelf) self.new.tied.log }
         ensures rules { S.Shelf.rules self.new.tied.shelf ≡ S.Shelf.rules self.old.tied.shelf }
         ensures does { Does (S.Shelf.rules self.old.tied.shelf) (seen self.old) (Call.Back k) (done result) (seen self.new) }
         ensures same { OnErr result (self.new ≡ self.old) }
@@ -96,6 +102,7 @@ impl<S: Shelf> Session<S> {
 
     // Drops what stands above level k, and takes the receipt. Refused by 13, 28, 27 or 26: the receipt is given back.
     pub fn back_from_clash(&mut self, receipt: Receipt, k: u32) -> Result<(), Returned>
+        ensures sound { Sound (S.Shelf.rules self.new.tied.shelf) (S.Shelf.told self.new.tied.shelf) self.new.tied.log }
         ensures rules { S.Shelf.rules self.new.tied.shelf ≡ S.Shelf.rules self.old.tied.shelf }
         ensures does { Does (S.Shelf.rules self.old.tied.shelf) (seen self.old) (Call.BackFromClash receipt.clash k) (spent result) (seen self.new) }
         ensures same { OnErr result (self.new ≡ self.old) }
@@ -108,6 +115,7 @@ impl<S: Shelf> Session<S> {
 
     // Shuts the session, and takes the receipt; the trail stays. Refused by 28 or 27: the receipt is given back.
     pub fn close(&mut self, receipt: Receipt) -> Result<(), Returned>
+        ensures sound { Sound (S.Shelf.rules self.new.tied.shelf) (S.Shelf.told self.new.tied.shelf) self.new.tied.log }
         ensures rules { S.Shelf.rules self.new.tied.shelf ≡ S.Shelf.rules self.old.tied.shelf }
         ensures does { Does (S.Shelf.rules self.old.tied.shelf) (seen self.old) (Call.Close receipt.clash) (spent result) (seen self.new) }
         ensures same { OnErr result (self.new ≡ self.old) }

@@ -17,3 +17,6 @@ returns-clause-does g c =
     let x = c.self.inside.tied in
     let drop = c.drop_above.ensures in
     rw (← c.self.view_is) (back_done _ (view_of x.log) _ c.args.k c.in_ok-admit.ensures (dropped _ x.log c.drop_above.new.self.log c.args.k ∣ c.self.invariant.reached ∣₁ drop.cut drop.state drop.level))
+
+pub returns-clause-sound : goal.returns-clause-sound
+returns-clause-sound g c = invariant_of-self g c

@@ -19,3 +19,6 @@ returns-clause-does g c =
     let drop = c.drop_above.ensures in
     let spend = rw (← c.self.view_is) at c.in_ok-spend.ensures in
     rw (← c.self.view_is) (back_from_done _ (view_of x.log) _ c.args.receipt.clash c.args.k spend (dropped _ x.log c.drop_above.new.self.log c.args.k ∣ c.self.invariant.reached ∣₁ drop.cut drop.state drop.level))
+
+pub returns-clause-sound : goal.returns-clause-sound
+returns-clause-sound g c = invariant_of-self g c

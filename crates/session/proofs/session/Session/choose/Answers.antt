@@ -34,3 +34,9 @@ returns-clause-does g c =
     rw (← c.self.view_is)
     (choose_done _ (view_of c.self.inside.tied.log) (view_of c.choose.new.self.log) c.in_ok-literal.literal c.args.n (simp (to_z-of_z, c.ranges.n) at c.in_ok-admit.ensures)
     (c.in_ok-literal.ensures.literal ∙ to_z-of_z w32 c.args.n c.ranges.n) chose.steps chose.state chose.level)
+
+pub returns-clause-sound : goal.returns-clause-sound
+returns-clause-sound g c = invariant_of-self g c
+
+pub returns-in_err-literal-clause-sound : goal.returns-in_err-literal-clause-sound
+returns-in_err-literal-clause-sound g c = record { told = c.laws.ensures.told; reached = c.laws.ensures.reached }

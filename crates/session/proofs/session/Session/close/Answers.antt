@@ -17,3 +17,6 @@ pub returns-clause-does : goal.returns-clause-does
 returns-clause-does g c =
     let spend = rw (← c.self.view_is) at c.in_ok-spend.ensures in
     rw (← c.self.view_is) (close_done _ (view_of c.self.inside.tied.log) _ c.args.receipt.clash spend c.shut.ensures.view)
+
+pub returns-clause-sound : goal.returns-clause-sound
+returns-clause-sound g c = invariant_of-self g c

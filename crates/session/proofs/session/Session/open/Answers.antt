@@ -8,3 +8,6 @@ invariant_of-result g c = record { told = c.new.ensures.told; reached = opened_r
 
 pub returns-clause-laws : goal.returns-clause-laws
 returns-clause-laws g c = laws _ (g.met.S.Shelf.lawful c.args.shelf)
+
+pub returns-clause-sound : goal.returns-clause-sound
+returns-clause-sound g c = invariant_of-result g c

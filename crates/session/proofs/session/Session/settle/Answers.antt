@@ -41,3 +41,6 @@ returns-clause-does g c =
           let some = w.in-Some.ensures in
           rw w.result-is (settle_broken _ x h w.in-Some.rule w.in-Ok.letter c.in_ok-admit.ensures some.ran (rw some.rules at w.in-Ok.ensures.is))
     ])
+
+pub returns-clause-sound : goal.returns-clause-sound
+returns-clause-sound g c = invariant_of-self g c
