@@ -2,6 +2,7 @@ ghost use Rattle.std.specs.Prelude.{◌≡◌, IfOk, OnOk};
 ghost use Rattle.runs.specs.Laws.{Laws};
 ghost use Rattle.script.specs.Players.{Hand};
 ghost use Rattle.script.specs.Plays.{Replayed};
+ghost use Rattle.session.specs.Logs.{Sound};
 ghost use Rattle.session.specs.Sessions.{seen};
 
 use crate::player::Player;
@@ -23,6 +24,7 @@ pub fn replay<S: Shelf + Drop>(
     shelf: S,
     requests: &[Request],
 ) -> Result<Played<S>, AllocError>
+    ensures sound { IfOk result (λ x. Sound (S.Shelf.rules x.player.session.tied.shelf) (S.Shelf.told x.player.session.tied.shelf) x.player.session.tied.log) }
     ensures rules { IfOk result (λ x. S.Shelf.rules x.player.session.tied.shelf ≡ S.Shelf.rules shelf) }
     ensures replayed { IfOk result (λ x. Replayed (S.Shelf.rules shelf) requests.now x.answers.items (seen x.player.session)) }
     ensures laws { OnOk result (Laws (S.Shelf.rules shelf)) }

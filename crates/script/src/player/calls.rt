@@ -3,6 +3,7 @@ ghost use Rattle.runs.specs.Laws.{Laws};
 ghost use Rattle.runs.specs.Views.{opened};
 ghost use Rattle.script.specs.Players.{Hand};
 ghost use Rattle.script.specs.Plays.{Plays};
+ghost use Rattle.session.specs.Logs.{Sound};
 ghost use Rattle.session.specs.Sessions.{seen};
 
 use crate::player::Player;
@@ -15,6 +16,7 @@ use shelf::Shelf;
 impl<S: Shelf> Player<S> {
     // Opens a session over the shelf. No receipt is out.
     pub fn open(shelf: S) -> Player<S>
+        ensures sound { Sound (S.Shelf.rules result.session.tied.shelf) (S.Shelf.told result.session.tied.shelf) result.session.tied.log }
         ensures rules { S.Shelf.rules result.session.tied.shelf ≡ S.Shelf.rules shelf }
         ensures view { seen result.session ≡ opened }
         ensures laws { Laws (S.Shelf.rules shelf) }
@@ -36,6 +38,7 @@ impl<S: Shelf> Player<S> {
     // Carries out a request and gives its answer. A request that wants a receipt takes the one that is out; where none is, it is passed over,
     // and there is no answer.
     pub fn play(self, request: Request) -> (Player<S>, Option<Answer>)
+        ensures sound { Sound (S.Shelf.rules result.0.session.tied.shelf) (S.Shelf.told result.0.session.tied.shelf) result.0.session.tied.log }
         ensures rules { S.Shelf.rules result.0.session.tied.shelf ≡ S.Shelf.rules self.session.tied.shelf }
         ensures plays { Plays (S.Shelf.rules self.session.tied.shelf) (seen self.session) request result.1 (seen result.0.session) }
         ensures hand { Hand (seen result.0.session) result.0.held }

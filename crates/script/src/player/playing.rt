@@ -2,6 +2,7 @@ ghost use Rattle.std.specs.Prelude.{◌≡◌, Some, None, MatchResult};
 ghost use Rattle.script.specs.Players.{given, Hand};
 ghost use Rattle.script.specs.Plays.{Plays};
 ghost use Rattle.session.specs.Outcomes.{done, settled, spent};
+ghost use Rattle.session.specs.Logs.{Sound};
 ghost use Rattle.session.specs.Sessions.{seen};
 
 use crate::request::Request;
@@ -18,9 +19,12 @@ pub(crate) fn call<S: Shelf>(
 ) -> (Option<Receipt>, Option<Answer>)
     requires hand { Hand (seen session.old) held }
     ensures hand { Hand (seen session.new) result.0 }
+    ensures sound { Sound (S.Shelf.rules session.new.tied.shelf) (S.Shelf.told session.new.tied.shelf) session.new.tied.log }
     ensures rules { S.Shelf.rules session.new.tied.shelf ≡ S.Shelf.rules session.old.tied.shelf }
     ensures plays { Plays (S.Shelf.rules session.old.tied.shelf) (seen session.old) request result.1 (seen session.new) }
 {
+    // It does nothing, and says that the session is sound where a request is passed over.
+    session.laws();
     match request {
         Request::Settle => match held {
             None => after_settle(session.settle()),

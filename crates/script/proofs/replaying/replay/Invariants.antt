@@ -1,4 +1,5 @@
 use Rattle.std.proofs.Common.{◌≡◌, ◌≤◌, length, take, vec_items, vec_len, vec_capacity}
+use Rattle.session.specs.Logs.{Sound}
 use Rattle.session.specs.Sessions.{seen}
 use Rattle.script.specs.Players.{Hand}
 use Rattle.script.proofs.Playing.{SoFar}
@@ -12,3 +13,4 @@ invariant-loop-request g l =
     × (vec_len l.answers ≡ l.request-index)
     × (length l.requests ≤ vec_capacity l.answers)
     × Hand (seen l.player.session) l.player.held
+    × Sound (m.rules l.player.session.tied.shelf) (m.told l.player.session.tied.shelf) l.player.session.tied.log
